@@ -7,7 +7,9 @@ use Rattle.std.specs.Map.{lookup}
 use Rattle.std.specs.BTreeMap.{is_at, insert_entry}
 use Rattle.volt_base.specs.Semantics.{Semantics}
 use Rattle.volt_base.specs.declared.entry.Applied.{Applied}
+use Rattle.volt_base.specs.Replies.{replied}
 use Rattle.volt_base.specs.declared.entry.Entry.{Entry}
+use Rattle.volt_base.specs.declared.entry.LastReply.{LastReply}
 use Rattle.volt_base.specs.declared.entry.Entry.TheVariants.{Sp, Frag, Done}
 use Rattle.volt_value.specs.declared.value.Value.{Value}
 use Rattle.volt_value.specs.declared.value.Value.TheVariants.{Int}
@@ -97,19 +99,25 @@ accounts = record {
 
 -- ---- the engine
 
--- the rows, and the calls that were applied
+-- the rows, the calls that were applied, and the last reply to each client
 pub record AccountsState : Type 0 where
   pub rows : Rows
   pub applied : List Applied
+  pub replies : List LastReply
 
 -- the state after a call that comes at this point: it is noted, aborted or not
-abbrev pub carried_out : AccountsState → ℕ → ℕ → Option AccountCall → AccountsState
-carried_out s call point None = s
-carried_out s call point (Some c) = record { rows = rows_after s.rows c; applied = s.applied ++ record { call = call; point = point } ∷ [] }
+abbrev pub carried_out : AccountsState → ℕ → ℕ → ℕ → Option AccountCall → AccountsState
+carried_out s call client point None = s
+carried_out s call client point (Some c) =
+    record {
+      rows = rows_after s.rows c;
+      applied = s.applied ++ record { call = call; point = point } ∷ [];
+      replies = replied client call (reply_bytes (reply s.rows c)) s.replies;
+    }
 
 -- the state after an entry: one that is no whole call changes nothing
 abbrev pub after : AccountsState → Entry → AccountsState
-after s (Sp call point body) = carried_out s call point (call_of_body body)
+after s (Sp call client point body) = carried_out s call client point (call_of_body body)
 after s (Frag m round body) = s
 after s (Done m outcome) = s
 
@@ -120,13 +128,13 @@ answer_to s (Some c) = reply_bytes (reply s.rows c)
 
 -- what an entry answers: one that is no whole call has no reply
 abbrev pub answer : AccountsState → Entry → List ℕ
-answer s (Sp call point body) = answer_to s (call_of_body body)
+answer s (Sp call client point body) = answer_to s (call_of_body body)
 answer s (Frag m round body) = []
 answer s (Done m outcome) = []
 
 -- an entry fits where it is a whole call whose body spells one
 abbrev pub fits : Entry → Bool
-fits (Sp call point body) = is_some (call_of_body body)
+fits (Sp call client point body) = is_some (call_of_body body)
 fits (Frag m round body) = false
 fits (Done m outcome) = false
 
@@ -134,10 +142,11 @@ fits (Done m outcome) = false
 abbrev pub accounts_semantics : Semantics
 accounts_semantics = record {
   State = AccountsState;
-  opening = λ part. record { rows = []; applied = [] };
+  opening = λ part. record { rows = []; applied = []; replies = [] };
   fits = λ s e. fits e;
   after = after;
   answer = answer;
   rows = λ s. flat_map table_line (row_lines s.rows);
   applied = λ s. s.applied;
+  replies = λ s. s.replies;
 }

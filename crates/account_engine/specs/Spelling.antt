@@ -5,7 +5,7 @@ use Rattle.std.specs.List.{flat_map}
 use Rattle.volt_value.specs.declared.value.Value.{Value}
 use Rattle.volt_value.specs.declared.value.Value.TheVariants as value
 use Rattle.volt_value.specs.Spelling.{value_bytes}
-use Rattle.volt_report.specs.Report.{ReportEnd, Kept, User, Fault, Statements, Steps, Unknown, Lost, Down}
+use Rattle.volt_report.specs.Report.{ReportEnd, Kept, User, Fault, Statements, Steps, Size, Lost, Down}
 use Rattle.account_engine.specs.declared.call.AccountCall.{AccountCall}
 use Rattle.account_engine.specs.declared.call.AccountCall.TheVariants.{Put, Get}
 
@@ -29,6 +29,6 @@ reply_bytes (User text) = 1 ∷ value_bytes (value.Text text)
 reply_bytes (Fault code) = 2 ∷ code ∷ []
 reply_bytes Statements = 3 ∷ []
 reply_bytes Steps = 4 ∷ []
-reply_bytes (Unknown start term) = []
+reply_bytes Size = 5 ∷ []
 reply_bytes Lost = []
 reply_bytes (Down part) = []

@@ -1,6 +1,7 @@
 //! The engine.
 
 ghost use Rattle.std.specs.Prelude.{◌≡◌, ◌++◌, [], ◌∷◌, true, OnOk, IfOk};
+ghost use Rattle.volt_base.specs.Replies.{replied};
 ghost use Rattle.account_engine.specs.Accounts as spec;
 ghost use Rattle.account_engine.specs.Spelling.{reply_bytes};
 ghost use Rattle.account_engine.specs.Answers.{end_of_answer};
@@ -12,16 +13,20 @@ use itoa::Buffer;
 use std::alloc::{AllocError, Global};
 use std::collections::BTreeMap;
 use std::marker::Model;
-use volt_base::{Applied, Bytes, CallNo, Engine, Entry, MakeEngine, PartNo, Stamp};
+use volt_base::{
+    Applied, Bytes, CallNo, ClientNo, Engine, Entry, LastReply, MakeEngine, PartNo, Stamp,
+    keep_reply,
+};
 
 /// The code of the fault of a key that is there already.
 const DUPLICATE: u8 = 7;
 
-/// One copy of the table, and the calls that it has applied.
+/// One copy of the table, the calls that it has applied, and the last reply to each client.
 #[derive(Drop)]
 pub struct Accounts {
     rows: BTreeMap<i64, i64>,
     applied: Vec<Applied>,
+    replies: Vec<LastReply>,
 }
 
 impl Model for Accounts {
@@ -29,17 +34,18 @@ impl Model for Accounts {
 
     ghost Value = { AccountsState };
 
-    ghost view = { λ a. record { rows = a.rows.entries; applied = a.applied.items } };
+    ghost view = { λ a. record { rows = a.rows.entries; applied = a.applied.items; replies = a.replies.items } };
 }
 
 impl Accounts {
     /// A table with no rows.
     pub fn new(alloc: Global) -> Accounts
-        ensures { result ≡ record { rows = []; applied = [] } }
+        ensures { result ≡ record { rows = []; applied = []; replies = [] } }
     {
         Accounts {
             rows: BTreeMap::new(alloc),
             applied: Vec::new(alloc),
+            replies: Vec::new(alloc),
         }
     }
 
@@ -47,6 +53,7 @@ impl Accounts {
     fn run(&mut self, call: &AccountCall) -> Result<Answer, AllocError>
         ensures rows { OnOk result (self.new.rows ≡ spec.rows_after self.old.rows call.now) }
         ensures applied { self.new.applied ≡ self.old.applied }
+        ensures replies { self.new.replies ≡ self.old.replies }
         ensures answer { IfOk result (λ answer. end_of_answer answer ≡ spec.reply self.old.rows call.now) }
     {
         match call {
@@ -66,11 +73,38 @@ impl Accounts {
 }
 
 impl Accounts {
-    /// Applies a call at its point, and answers its reply.
+    /// Notes the reply to a client's call. Client 0 is none.
+    fn keep(
+        &mut self,
+        alloc: Global,
+        client: ClientNo,
+        call: CallNo,
+        reply: &Bytes,
+    ) -> Result<(), AllocError>
+        ensures rows { self.new.rows ≡ self.old.rows }
+        ensures applied { self.new.applied ≡ self.old.applied }
+        ensures replies { OnOk result (self.new.replies ≡ replied client call reply.now self.old.replies) }
+    {
+        if client == 0 {
+            return Ok(());
+        }
+        let reply = reply.copy(alloc)?;
+        keep_reply(
+            &mut self.replies,
+            LastReply {
+                client,
+                call,
+                reply,
+            },
+        )
+    }
+
+    /// Applies a client's call at its point, and answers its reply.
     fn apply_call(
         &mut self,
         alloc: Global,
         number: CallNo,
+        client: ClientNo,
         point: Stamp,
         call: &AccountCall,
     ) -> Result<Bytes, AllocError>
@@ -78,6 +112,7 @@ impl Accounts {
             (self.new ≡ record {
               rows = spec.rows_after self.old.rows call.now;
               applied = self.old.applied ++ record { call = number; point = point } ∷ [];
+              replies = replied client number (reply_bytes (spec.reply self.old.rows call.now)) self.old.replies;
             }) }
         ensures reply { IfOk result (λ reply. reply ≡ reply_bytes (spec.reply self.old.rows call.now)) }
     {
@@ -86,7 +121,9 @@ impl Accounts {
             call: number,
             point,
         })?;
-        answer.encode(alloc)
+        let reply = answer.encode(alloc)?;
+        self.keep(alloc, client, number, &reply)?;
+        Ok(reply)
     }
 }
 
@@ -106,8 +143,13 @@ impl Engine for Accounts {
 
     fn apply(&mut self, alloc: Global, entry: &Entry) -> Result<Bytes, AllocError> {
         match entry {
-            Entry::Sp { call, point, body } => match AccountCall::decode(body.as_slice()) {
-                Some(asked) => self.apply_call(alloc, *call, *point, &asked),
+            Entry::Sp {
+                call,
+                client,
+                point,
+                body,
+            } => match AccountCall::decode(body.as_slice()) {
+                Some(asked) => self.apply_call(alloc, *call, *client, *point, &asked),
                 None => unreachable!(),
             },
             Entry::Frag { .. } | Entry::Done { .. } => unreachable!(),
@@ -124,6 +166,10 @@ impl Engine for Accounts {
 
     fn applied(&self) -> &[Applied] {
         self.applied.as_slice()
+    }
+
+    fn replies(&self) -> &[LastReply] {
+        self.replies.as_slice()
     }
 }
 

@@ -48,6 +48,7 @@ fn reply_of<E: Engine>(
     assert!(rt; call.is_valid());
     let entry = Entry::Sp {
         call: applied.call,
+        client: 1,
         point: applied.point,
         body: call.encode(alloc)?,
     };
@@ -88,6 +89,10 @@ fn calls_are_carried_out(rt: HostRuntime) -> Result<(), Fail> {
     let applied = engine.applied();
     assert_eq!(rt; applied.len(), 5);
     assert_eq!(rt; applied[1], Applied { call: 1, point: 10 });
+
+    let replies = engine.replies();
+    assert_eq!(rt; replies.len(), 1);
+    assert_eq!(rt; (replies[0].client, replies[0].call), (1, 4));
     Ok(())
 }
 
@@ -97,6 +102,7 @@ fn only_whole_calls_fit(rt: HostRuntime) -> Result<(), Fail> {
     let engine = AccountMaker.make(alloc, 0)?;
     let misspelled = Entry::Sp {
         call: 1,
+        client: 1,
         point: 1,
         body: Bytes::of(alloc, &PUT_1_10[..20])?,
     };

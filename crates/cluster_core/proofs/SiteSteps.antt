@@ -20,17 +20,17 @@ replay-append S state [] ys = refl
 replay-append S state (x ∷ xs) ys = replay-append S (S.after state x) xs ys
 
 -- a call that was applied, its reply waiting
-pub stands_called : (S : Semantics) (slot stamp : ℕ) (old new : LogEnd) (before after : S.State) (w : Waiting) (body : List ℕ) (s : SiteState)
+pub stands_called : (S : Semantics) (slot stamp : ℕ) (old new : LogEnd) (before after : S.State) (w : Waiting) (client : ℕ) (body : List ℕ) (s : SiteState)
     → StandsForSite S slot old before s
     → new.end ≡ old.end + 1
     → new.on_disk ≡ old.on_disk
     → new.waiting.items ≡ old.waiting.items ++ w ∷ []
-    → after ≡ S.after before (Sp w.call stamp body)
-    → w.reply ≡ S.answer before (Sp w.call stamp body)
-    → StandsForSite S slot new after (site_after S stamp slot s (Agent w.host) (msg.SpCall w.call w.start body))
-stands_called S slot stamp old new before after w body s h end disk waiting state reply = record {
-  ends = end ∙ ap (λ (n : ℕ). n + 1) h.ends ∙ sym (length-append s.log (Sp w.call stamp body ∷ []));
+    → after ≡ S.after before (Sp w.call client stamp body)
+    → w.reply ≡ S.answer before (Sp w.call client stamp body)
+    → StandsForSite S slot new after (site_after S stamp slot s (Agent w.host) (msg.SpCall w.call w.start client body))
+stands_called S slot stamp old new before after w client body s h end disk waiting state reply = record {
+  ends = end ∙ ap (λ (n : ℕ). n + 1) h.ends ∙ sym (length-append s.log (Sp w.call client stamp body ∷ []));
   written = disk ∙ h.written;
-  waits = waiting ∙ ap (λ (ws : List Waiting). ws ++ w ∷ []) h.waits ∙ ap (λ (r : List ℕ). s.waiting ++ record { reply = r; call = w.call; start = w.start; host = w.host } ∷ []) (reply ∙ ap (λ (t : S.State). S.answer t (Sp w.call stamp body)) h.replayed);
-  replayed = state ∙ ap (λ (t : S.State). S.after t (Sp w.call stamp body)) h.replayed ∙ sym (replay-append S (S.opening slot) s.log (Sp w.call stamp body ∷ []));
+  waits = waiting ∙ ap (λ (ws : List Waiting). ws ++ w ∷ []) h.waits ∙ ap (λ (r : List ℕ). s.waiting ++ record { reply = r; call = w.call; start = w.start; host = w.host } ∷ []) (reply ∙ ap (λ (t : S.State). S.answer t (Sp w.call client stamp body)) h.replayed);
+  replayed = state ∙ ap (λ (t : S.State). S.after t (Sp w.call client stamp body)) h.replayed ∙ sym (replay-append S (S.opening slot) s.log (Sp w.call client stamp body ∷ []));
 }

@@ -7,13 +7,13 @@ use Rattle.volt_base.specs.declared.entry.Entry.TheVariants.{Sp, Frag, Done}
 
 -- the calls that were applied, after an entry
 abbrev pub after : List Applied → Entry → List Applied
-after s (Sp call point body) = s ++ record { call = call; point = point } ∷ []
+after s (Sp call client point body) = s ++ record { call = call; point = point } ∷ []
 after s (Frag m round body) = s
 after s (Done m outcome) = s
 
 -- what an entry answers
 abbrev pub answer : List Applied → Entry → List ℕ
-answer s (Sp call point body) = body
+answer s (Sp call client point body) = body
 answer s (Frag m round body) = []
 answer s (Done m outcome) = []
 
@@ -27,4 +27,5 @@ echo_semantics = record {
   answer = answer;
   rows = λ s. 7 ∷ [];
   applied = λ s. s;
+  replies = λ s. [];
 }

@@ -71,7 +71,15 @@ impl Agent {
             && start == self.start
         {
             self.pending.push(Pending { call, client })?;
-            out.push(Actor::Site(part), Msg::SpCall { call, start, body })?;
+            out.push(
+                Actor::Site(part),
+                Msg::SpCall {
+                    call,
+                    start,
+                    client,
+                    body,
+                },
+            )?;
         }
         Ok(())
     }

@@ -7,7 +7,7 @@ use crate::outbox::Outbox;
 use one_host_model::{Msg, Waiting};
 use std::alloc::{AllocError, Global};
 use std::collections::VecDeque;
-use volt_base::{Bytes, CallNo, Engine, Entry, HostNo, Pos, SlotNo, Stamp, Start};
+use volt_base::{Bytes, CallNo, ClientNo, Engine, Entry, HostNo, Pos, SlotNo, Stamp, Start};
 use volt_wire::Actor;
 
 /// What a site keeps of its log.
@@ -71,9 +71,12 @@ impl<E: Engine> Site<E> {
             (site_after E.meaning stamp self.old.slot s from msg)) }
     {
         match msg {
-            Msg::SpCall { call, start, body } => {
-                self.on_call(alloc, stamp, from, call, start, body)
-            }
+            Msg::SpCall {
+                call,
+                start,
+                client,
+                body,
+            } => self.on_call(alloc, stamp, from, call, start, client, body),
             _ => Ok(()),
         }
     }
@@ -86,19 +89,21 @@ impl<E: Engine> Site<E> {
         from: Actor,
         call: CallNo,
         start: Start,
+        client: ClientNo,
         body: Bytes,
     ) -> Result<(), AllocError>
         ensures slot { self.new.slot ≡ self.old.slot }
         ensures site { OnOk result ((s : SiteState)
             → StandsForSite E.meaning self.old.slot self.old.log (E.state self.old.engine) s
             → StandsForSite E.meaning self.old.slot self.new.log (E.state self.new.engine)
-            (site_after E.meaning stamp self.old.slot s from (Msg.SpCall call start body))) }
+            (site_after E.meaning stamp self.old.slot s from (Msg.SpCall call start client body))) }
     {
         let Actor::Agent(host) = from else {
             return Ok(());
         };
         let entry = Entry::Sp {
             call,
+            client,
             point: stamp,
             body,
         };

@@ -5,7 +5,7 @@ use one_host_model::{Ended, WorldCall, WorldInput};
 use std::alloc::{AllocError, Global};
 use std::process::Abort;
 use std::test::Fail;
-use volt_base::{Applied, Bytes, Engine, Entry, MakeEngine, PartNo};
+use volt_base::{Applied, Bytes, Engine, Entry, LastReply, MakeEngine, PartNo};
 use volt_wire::{Actor, Event};
 
 /// An engine that answers each call with the call's own body.
@@ -27,7 +27,12 @@ impl Engine for Echo {
 
     fn apply(&mut self, alloc: Global, entry: &Entry) -> Result<Bytes, AllocError> {
         match entry {
-            Entry::Sp { call, point, body } => {
+            Entry::Sp {
+                call,
+                point,
+                body,
+                ..
+            } => {
                 self.applied.push(Applied {
                     call: *call,
                     point: *point,
@@ -44,6 +49,10 @@ impl Engine for Echo {
 
     fn applied(&self) -> &[Applied] {
         self.applied.as_slice()
+    }
+
+    fn replies(&self) -> &[LastReply] {
+        &[]
     }
 }
 

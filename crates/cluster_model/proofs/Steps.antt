@@ -9,7 +9,7 @@ use Rattle.volt_wire.specs.declared.event.Event.TheVariants as event
 use Rattle.cluster_model.specs.Engine.{Database}
 use Rattle.cluster_model.specs.Letters.{same, Letter, Sends, no_sends}
 use Rattle.cluster_model.specs.Director.{does_next}
-use Rattle.cluster_model.specs.Client.{submits}
+use Rattle.cluster_model.specs.Client.{submits, client_takes}
 use Rattle.cluster_model.specs.Agent.{agent_turn}
 use Rattle.cluster_model.specs.Sync.{site_turn, sync_turn}
 use Rattle.cluster_model.specs.Scanner.{scanner_turn, scan_turn}
@@ -75,8 +75,8 @@ client_takes-one E w n from l ls o = record {
   agents = λ h e. refl;
   sites = λ j e. refl;
   scanners = λ j e. refl;
-  appends = λ b c. sent-appends (took w.channel from (Client n)) (Client n) no_sends b c;
-  others = λ b c e. sent-others (took w.channel from (Client n)) (Client n) no_sends b c e;
+  appends = λ b c. sent-appends (took w.channel from (Client n)) (Client n) (client_takes w.deployment (stamp_of w) n (w.clients n) from l).sends b c;
+  others = λ b c e. sent-others (took w.channel from (Client n)) (Client n) (client_takes w.deployment (stamp_of w) n (w.clients n) from l).sends b c e;
 }
 
 agent_takes-one : (E : Database) (w : World) (h : ℕ) (from : Actor) (l : Letter) (ls : List Letter) (o : Environment)

@@ -1,42 +1,47 @@
 -- The agent of a host: it agrees with the others on who is a member, and hands the calls of clients on and the answers back.
-use Rattle.std.specs.Prelude.{ℕ, ◌==◌, ◌&&◌, ◌||◌, not, nat_lt, nat_le, Bool, true, false, if◌then◌else◌, List, [], ◌∷◌, ◌++◌, map, filter, Option, Some, None, is_none}
-use Rattle.std.specs.List.{list_all}
+use Rattle.std.specs.Prelude.{ℕ, ◌==◌, ◌&&◌, ◌||◌, not, nat_lt, nat_le, Bool, true, false, if◌then◌else◌, List, [], ◌∷◌, ◌++◌, map, flat_map, Option, Some, None, is_none, option_map}
+use Rattle.std.specs.List.{list_any, list_all}
 use Rattle.volt_wire.specs.Word.{Membership}
 use Rattle.volt_wire.specs.declared.actor.Actor.{Actor}
 use Rattle.volt_wire.specs.declared.actor.Actor.TheVariants.{Director, Client, Agent, Site, Scanner}
 use Rattle.volt_wire.specs.declared.end.End.TheVariants as end
+use Rattle.volt_wire.specs.declared.message.Msg.{Msg}
 use Rattle.volt_wire.specs.declared.message.Msg.TheVariants as msg
 use Rattle.cluster_model.specs.Environment.{Environment, NoMemory}
 use Rattle.cluster_model.specs.Engine.{Database}
 use Rattle.cluster_model.specs.Words.{Deployment, part_of_slot, is_host, is_client, is_slot_of, slots_of_host, is_in, with_number, term_of, term_in, same_word, union, with_lost, members, start_of, is_member, admits, initiator, leader, start_of_slot, part_down, is_down}
-use Rattle.cluster_model.specs.Letters.{Letter, Sends, Turn, becomes, sending, ◌▸◌, open_letter, letter_to, letter_in, only, arrival, Taken, Refused, Waits, Waiting, of_term, above_term}
-use Rattle.cluster_model.specs.AgentState.{AgentState, Pending, Job_, RunCall, TakeSnapshot, Admission, new_agent, initiates, on_reply, stops, stops_with_host}
+use Rattle.cluster_model.specs.Letters.{Blocks, no_sends, Letter, Sends, Turn, becomes, sending, ◌▸◌, open_letter, letter_to, letter_in, only, arrival, Taken, Refused, Waits, Waiting, of_term, above_term}
+use Rattle.cluster_model.specs.AgentState.{AgentState, Pending, with_pending, ToRun, RunCall, TakeSnapshot, Admission, new_agent, initiates, on_reply, stops, stops_with_host}
 use Rattle.cluster_model.specs.Initiator.{queues, on_frag_done, on_finished, on_mp_state, on_decided_word}
 
 -- ---- calls
 
--- the call is pending, and goes to the leader of its partition or to the initiator
-abbrev pub pends : AgentState → ℕ → ℕ → ℕ → AgentState
-pends a call client target =
-    record a { pending = a.pending ++ record { call = call; client = client; target = target } ∷ [] }
+-- Who runs a call by a word, and the start of its host: the leader of its partition, or the initiator for a call on all.
+abbrev pub with_start : Deployment → Membership → Option ℕ → Option (Actor × ℕ)
+with_start D w None = None
+with_start D w (Some slot) = option_map (λ start. (Site slot, start)) (start_of_slot D w slot)
 
-abbrev pub to_slot : AgentState → ℕ → ℕ → List ℕ → ℕ → Option ℕ → Turn AgentState
-to_slot a call n body slot None = becomes a
-to_slot a call n body slot (Some start) =
-    sending (pends a call n start) (only (Site slot) (letter_to start (msg.SpCall call a.start body)))
+abbrev pub runner : Deployment → Membership → Option ℕ → Option (Actor × ℕ)
+runner D w (Some part) = with_start D w (leader D w part)
+runner D w None = option_map (λ first. (Agent first.0, first.1)) (initiator w)
 
-abbrev pub to_partition : Deployment → AgentState → Membership → ℕ → ℕ → List ℕ → Option ℕ → Turn AgentState
-to_partition D a w call n body None = becomes a
-to_partition D a w call n body (Some slot) = to_slot a call n body slot (start_of_slot D w slot)
+-- a call as an agent of this start asks for it
+abbrev pub request : ℕ → Pending → Option ℕ → Msg Blocks
+request start p (Some part) = msg.SpCall p.call start p.client p.body
+request start p None = msg.MpCall p.call start p.client p.body
 
-abbrev pub to_initiator : AgentState → ℕ → ℕ → List ℕ → Option (ℕ × ℕ) → Turn AgentState
-to_initiator a call n body None = becomes a
-to_initiator a call n body (Some first) =
-    sending (pends a call n first.1) (only (Agent first.0) (letter_to first.1 (msg.MpCall call a.start body)))
+abbrev pub asks : ℕ → Pending → Actor × ℕ → Sends
+asks start p to = only to.0 (letter_to to.1 (request start p p.part))
+
+-- the call is pending, and goes to who runs it
+abbrev pub to_runner : AgentState → Pending → Option (Actor × ℕ) → Turn AgentState
+to_runner a p None = becomes a
+to_runner a p (Some to) =
+    sending (record a { pending = with_pending (record p { target = to.1 }) a.pending }) (asks a.start p to)
 
 abbrev pub hands_on : Deployment → AgentState → Membership → ℕ → ℕ → Option ℕ → List ℕ → Turn AgentState
-hands_on D a w n call (Some part) body = to_partition D a w call n body (leader D w part)
-hands_on D a w n call None body = to_initiator a call n body (initiator w)
+hands_on D a w n call part body =
+    to_runner a (record { call = call; client = n; part = part; body = body; target = 0 }) (runner D w part)
 
 abbrev pub unless_down : Deployment → AgentState → Membership → ℕ → ℕ → Option ℕ → List ℕ → Option ℕ → Turn AgentState
 unless_down D a w n call part body (Some down) = sending a (only (Client n) (open_letter (msg.Answer call (end.Down down))))
@@ -79,11 +84,16 @@ takes_word D h a w =
       | _ ↦ []
     ])
 
--- Decided: a joiner without a word takes it. A joiner with a word stops its host, if this one is of a higher term than
--- the one that it took and doesn't admit it.
+-- whether the word has a member of a greater start
+abbrev pub is_passed_over : ℕ → Membership → Bool
+is_passed_over start w = list_any (λ m. nat_lt start m.1) (members w)
+
+-- Decided: a joiner without a word takes it, unless it has a member of a greater start; then it would never be admitted, and
+-- it stops its host. So does a joiner with a word, if this one is of a higher term than the one that it took and doesn't
+-- admit it.
 abbrev pub on_decided : Deployment → ℕ → AgentState → Option Membership → Option Membership → Membership → Turn AgentState
 on_decided D h a (Some decided) taken w = becomes a
-on_decided D h a None None w = takes_word D h a w
+on_decided D h a None None w = if is_passed_over a.start w then stops_with_host D h a.start else takes_word D h a w
 on_decided D h a None (Some taken) w =
     if nat_lt (term_of taken) (term_of w) && not (admits w a.start) then stops_with_host D h a.start else becomes a
 
@@ -117,11 +127,11 @@ word_to w None = []
 word_to w (Some start) = letter_to start (msg.Word w.base w.lost w.admitted) ∷ []
 
 -- The agent says its word to the other members, where the word counts it as a member.
-abbrev pub says : ℕ → AgentState → Option Membership → Turn AgentState
-says h a None = becomes a
-says h a (Some w) =
+abbrev pub says : Deployment → ℕ → AgentState → Option Membership → Turn AgentState
+says D h a None = becomes a
+says D h a (Some w) =
     sending a (λ b. elim b as (λ _. List Letter) [
-      | Agent g ↦ if is_member w h a.start && not (g == h) then word_to w (start_of w g) else []
+      | Agent g ↦ if is_member w h a.start && is_host D g && not (g == h) then word_to w (start_of w g) else []
       | _ ↦ []
     ])
 
@@ -135,35 +145,47 @@ may_decide h a None = false
 may_decide h a (Some w) =
     is_member w h a.start && not (is_word w a.decided) && list_all (λ m. m.0 == h || is_word w (a.said m.0)) (members w)
 
--- the calls whose target is lost end unknown, as far as the agent knows
-abbrev pub unknown_ends : Membership → List Pending → ℕ → List Letter
-unknown_ends w ps n =
-    map (λ p. open_letter (msg.Answer p.call (end.Unknown p.target (term_of w))))
-    (filter (λ p. p.client == n && is_in p.target w.lost) ps)
+-- A pending call whose target's start is lost goes again, to who runs it by this word. Where that leaves a partition without
+-- a copy, none does.
+abbrev pub goes_again : Deployment → Membership → Pending → Option (Actor × ℕ)
+goes_again D w p = if is_in p.target w.lost && not (is_down D w) then runner D w p.part else None
 
--- On deciding a word it sends View to its sites, Decided to the agents that are no members, Opened to all clients if it
--- is newly admitted, and the answer that its end is unknown for each pending call whose target's start is lost. Where the
--- word leaves a partition without a copy no View is sent.
+abbrev pub with_target : Pending → Option (Actor × ℕ) → Pending
+with_target p None = p
+with_target p (Some to) = record p { target = to.1 }
+
+abbrev pub asked_again : Deployment → Membership → List Pending → List Pending
+asked_again D w ps = map (λ p. with_target p (goes_again D w p)) ps
+
+abbrev pub asks_if : ℕ → Pending → Option (Actor × ℕ) → Sends
+asks_if start p None = no_sends
+asks_if start p (Some to) = asks start p to
+
+-- by rising call
+abbrev pub asks_again : Deployment → ℕ → Membership → List Pending → Sends
+asks_again D start w ps b = flat_map (λ p. asks_if start p (goes_again D w p) b) ps
+
+-- On deciding a word it sends View to its sites, Decided to the agents that are no members, and Opened to all clients if it
+-- is newly admitted. Where the word leaves a partition without a copy no View is sent.
 abbrev pub decided_sends : Deployment → ℕ → AgentState → Membership → Sends
 decided_sends D h a w (Site s) = if is_slot_of D h s && not (is_down D w) then letter_to a.start (msg.View w) ∷ [] else []
 decided_sends D h a w (Agent g) =
     if is_host D g && not (g == h) && is_none (start_of w g) then open_letter (msg.Decided w) ∷ [] else []
 decided_sends D h a w (Client n) =
-    if is_client D n
-    then (if is_none a.decided then open_letter (msg.Opened a.start) ∷ [] else []) ++ unknown_ends w a.pending n
-    else []
+    if is_client D n && is_none a.decided then open_letter (msg.Opened a.start) ∷ [] else []
 decided_sends D h a w b = []
 
 abbrev pub decides_word : Deployment → ℕ → AgentState → Option Membership → Turn AgentState
 decides_word D h a None = becomes a
 decides_word D h a (Some w) =
-    sending (on_decided_word h (record a { decided = Some w; pending = filter (λ p. not (is_in p.target w.lost)) a.pending }))
-    (decided_sends D h a w)
+    sending
+    (on_decided_word h (record a { decided = Some w; pending = asked_again D w a.pending }))
+    (λ b. decided_sends D h a w b ++ asks_again D a.start w a.pending b)
 
 -- what follows the handler of a message, given the word that the agent had before
 abbrev pub agrees : Deployment → ℕ → Option Membership → AgentState → Turn AgentState
 agrees D h before a =
-    (if is_other_word before a.own then says h a a.own else becomes a)
+    (if is_other_word before a.own then says D h a a.own else becomes a)
     ▸ (λ b. if may_decide h b b.own then decides_word D h b b.own else becomes b)
 
 -- ---- what it does with each message
@@ -174,9 +196,9 @@ from_agent E D h stamp a g l = elim l.body as (λ _. Turn AgentState) [
   | msg.Word base lost admitted ↦ becomes (on_word a a.own g base lost admitted)
   | msg.Hello start ↦ on_hello h a a.decided g start
   | msg.Decided w ↦ on_decided D h a a.decided a.taken w
-  | msg.MpCall call start body ↦ queues E D a (Job_ (RunCall call g start body))
+  | msg.MpCall call start client body ↦ queues E D h a (ToRun (RunCall call client g start body))
   | msg.MpReply call e ↦ on_reply D a call e
-  | msg.Admit start ↦ queues E D a (Admission start g l.term)
+  | msg.Admit start ↦ queues E D h a (Admission start g l.term)
   | _ ↦ becomes a
 ]
 
@@ -186,7 +208,9 @@ from_site E D h stamp a s l = elim l.body as (λ _. Turn AgentState) [
   | msg.FragDone m round partial ↦
       on_frag_done E D stamp a a.initiating.phase a.initiating.work (part_of_slot D s) m round partial
   | msg.Finished m ↦ on_finished E D h a a.initiating.phase a.initiating.work (part_of_slot D s) m
-  | msg.MpState m is_open outcome ↦ on_mp_state E D h a a.initiating.phase (part_of_slot D s) m is_open outcome
+  | msg.MpState m is_open outcome replies ↦
+      on_mp_state E D h a a.initiating.phase
+      (record { part = part_of_slot D s; transaction = m; is_open = is_open; outcome = outcome; replies = replies })
   | msg.Loaded start ↦ on_loaded D h a s start
   | _ ↦ becomes a
 ]
@@ -194,7 +218,7 @@ from_site E D h stamp a s l = elim l.body as (λ _. Turn AgentState) [
 -- Snap: the initiator queues a snapshot; others do nothing.
 abbrev pub from_director : Database → Deployment → ℕ → AgentState → Letter → Turn AgentState
 from_director E D h a l = elim l.body as (λ _. Turn AgentState) [
-  | msg.Snap ↦ if initiates h a a.decided then queues E D a (Job_ TakeSnapshot) else becomes a
+  | msg.Snap ↦ if initiates h a a.decided then queues E D h a (ToRun TakeSnapshot) else becomes a
   | _ ↦ becomes a
 ]
 
@@ -250,7 +274,7 @@ on_stop D h a start = if nat_le a.start start then stops D h a.start else become
 abbrev pub agent_runs : Database → Deployment → ℕ → ℕ → AgentState → Actor → Letter → Turn AgentState
 agent_runs E D h stamp a from l = elim (arrival a.start (term_in a.decided) l) as (λ _. Turn AgentState) [
   | Taken ↦ handler_and_word E D h stamp a from l ▸ takes_waiting E D h stamp
-  | Waits ↦ becomes (record a { waiting = a.waiting ++ record { from = from; letter = l } ∷ [] })
+  | Waits ↦ becomes (record a { waiting = a.waiting ++ record { from = from; letter = record l { past = [] } } ∷ [] })
   | Refused ↦ becomes a
 ]
 

@@ -1,36 +1,31 @@
 -- What the agent of a host knows.
-use Rattle.std.specs.Prelude.{ℕ, ◌==◌, ◌&&◌, Bool, false, if◌then◌else◌, List, [], ◌∷◌, ◌++◌, Option, Some, None}
+use Rattle.std.specs.Prelude.{ℕ, ◌==◌, ◌&&◌, nat_lt, Bool, false, if◌then◌else◌, List, [], ◌∷◌, ◌++◌, Option, Some, None}
+use Rattle.volt_base.specs.declared.entry.LastReply.{LastReply}
 use Rattle.volt_base.specs.declared.entry.Outcome.{Outcome}
 use Rattle.volt_wire.specs.Word.{Membership}
 use Rattle.volt_wire.specs.declared.actor.Actor.TheVariants.{Client, Agent, Site, Scanner}
 use Rattle.volt_wire.specs.declared.end.End.{End}
 use Rattle.volt_wire.specs.declared.message.Msg.TheVariants as msg
+pub use Rattle.cluster_model.specs.declared.initiating.Job.{Job}
+pub use Rattle.cluster_model.specs.declared.initiating.Job.TheVariants.{RunCall, TakeSnapshot}
+pub use Rattle.cluster_model.specs.declared.initiating.Queued.{Queued}
+pub use Rattle.cluster_model.specs.declared.initiating.Queued.TheVariants.{ToRun, Admission}
+pub use Rattle.cluster_model.specs.declared.initiating.Heard.{Heard}
+pub use Rattle.cluster_model.specs.declared.initiating.Phase.{Phase}
+pub use Rattle.cluster_model.specs.declared.initiating.Phase.TheVariants.{Off, Hears, Closes, Idle, Works}
 use Rattle.cluster_model.specs.Words.{Deployment, initiator, is_slot_of, is_host, is_client, is_down}
 use Rattle.cluster_model.specs.Letters.{Letter, Sends, Turn, becomes, sending, open_letter, only, Waiting}
 
--- a call that the agent took: who waits for it, and the start to which the agent sent it
+-- a call that the agent took: who waits for it, the partition on which it runs or none for a call on all, and the start to
+-- which the agent sent it last
 pub record Pending : Type 0 where
   pub call : ℕ
   pub client : ℕ
+  pub part : Option ℕ
+  pub body : List ℕ
   pub target : ℕ
 
 -- ---- the initiator's part
-
--- what the initiator is to run on all partitions: a call, for the agent of this host and start, or a snapshot
-pub data Job : Type 0 where
-  RunCall : (call : ℕ) (host : ℕ) (start : ℕ) (body : List ℕ) → Job
-  TakeSnapshot : Job
-
--- what waits in the initiator's queue: a job, or a start of a host that asks to be admitted in a term
-pub data Queued : Type 0 where
-  Job_ : Job → Queued
-  Admission : (start : ℕ) (host : ℕ) (term : ℕ) → Queued
-
--- how the initiator decided the job at hand, and what its call is answered
-pub record Decision : Type 0 where
-  pub outcome : Outcome
-  -- none for a snapshot
-  pub end : Option End
 
 -- the job at hand
 pub record Work : Type 0 where
@@ -41,27 +36,10 @@ pub record Work : Type 0 where
   pub round : ℕ
   pub fed : List (List (List ℕ))
   pub gathered : List (ℕ × List ℕ)
-  pub decision : Option Decision
+  -- how it was decided
+  pub decision : Option Outcome
   -- the partitions in which its end stands for good
   pub finished : List ℕ
-
--- what a partition told of itself in a new term: the transaction that is open, or the last one that was done
-pub record Heard : Type 0 where
-  pub part : ℕ
-  pub transaction : ℕ
-  pub is_open : Bool
-  pub outcome : Option Outcome
-
-pub data Phase : Type 0 where
-  -- it isn't the initiator
-  Off : Phase
-  -- it waits for what all partitions tell of themselves
-  Hears : List Heard → Phase
-  -- It closes this transaction in these partitions, and it is closed for good in those.
-  Closes : (transaction : ℕ) (parts : List ℕ) (finished : List ℕ) → Phase
-  Idle : Phase
-  -- it works on the job at hand
-  Works : Phase
 
 pub record Initiating : Type 0 where
   pub phase : Phase
@@ -70,6 +48,8 @@ pub record Initiating : Type 0 where
   pub next : ℕ
   -- what waits, in order of coming
   pub queue : List Queued
+  -- the last reply to each client that it knows of, by rising client
+  pub replies : List LastReply
 
 -- ---- the agent
 
@@ -92,7 +72,7 @@ pub record AgentState : Type 0 where
   pub waiting : List Waiting
 
 abbrev pub no_initiator : Initiating
-no_initiator = record { phase = Off; work = None; next = 0; queue = [] }
+no_initiator = record { phase = Off; work = None; next = 0; queue = []; replies = [] }
 
 -- an agent of this start that knows nothing yet; with the start 0 one that isn't running
 abbrev pub new_agent : ℕ → AgentState
@@ -123,6 +103,11 @@ initiates h a (Some w) = is_initiator_in h a.start (initiator w)
 abbrev pub client_of : ℕ → List Pending → Option ℕ
 client_of call [] = None
 client_of call (p ∷ ps) = if p.call == call then Some p.client else client_of call ps
+
+-- by rising call
+abbrev pub with_pending : Pending → List Pending → List Pending
+with_pending p [] = p ∷ []
+with_pending p (q ∷ qs) = if nat_lt p.call q.call then p ∷ q ∷ qs else q ∷ with_pending p qs
 
 abbrev pub without_call : ℕ → List Pending → List Pending
 without_call call [] = []

@@ -1,13 +1,9 @@
 -- What the cluster knows of the database.
-use Rattle.std.specs.Prelude.{ℕ, Bool, List, Option}
+use Rattle.std.specs.Prelude.{ℕ, List, Option}
 use Rattle.volt_base.specs.Semantics.{Semantics}
 use Rattle.volt_base.specs.declared.entry.Outcome.{Outcome}
-
--- What a call on all partitions does next: a round, in which each partition runs this body, or its end with a reply.
--- A call that isn't kept is undone.
-pub data CoordStep : Type 0 where
-  Round : (body : List ℕ) → CoordStep
-  Finish : (keep : Bool) (reply : List ℕ) → CoordStep
+pub use Rattle.volt_base.specs.declared.coord.CoordStep.{CoordStep}
+pub use Rattle.volt_base.specs.declared.coord.CoordStep.TheVariants.{Round, Finish}
 
 -- An abstract database: the tables of each partition, and how a call on all partitions goes on.
 pub record Database : Type 1 where

@@ -28,7 +28,7 @@ use Rattle.cluster_model.specs.Recover.{recovers, count_shown}
 
 abbrev pub received : Database → World → Actor → Actor → Letter → Environment → World
 received E w Director from l o = with_director w (becomes (director_takes w.director from l))
-received E w (Client n) from l o = with_client w n (becomes (client_takes (stamp_of w) n (w.clients n) from l))
+received E w (Client n) from l o = with_client w n (client_takes w.deployment (stamp_of w) n (w.clients n) from l)
 received E w (Agent h) from l o = with_agent w h (agent_turn E w.deployment h (stamp_of w) (w.agents h) from l o)
 received E w (Site i) from l o = with_site w i (site_turn E w.deployment (stamp_of w) i (w.sites i) from l o)
 received E w (Scanner i) from l o = with_scanner w i (scanner_turn w.deployment i (w.scanners i) from l o)

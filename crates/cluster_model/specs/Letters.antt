@@ -48,7 +48,7 @@ abbrev pub no_sends : Sends
 no_sends b = []
 
 -- one message to one actor
-abbrev pub only : Actor → Letter → Sends
+abbrev pub only : {A : Type 0} → Actor → A → Actor → List A
 only to l b = if same to b then l ∷ [] else []
 
 -- What an event makes of its actor: the state after it, and what it sends.

@@ -1,5 +1,6 @@
 pub mod Engine
 pub mod Log
+pub mod Replies
 pub mod Words
 pub mod Letters
 pub mod Director

@@ -28,7 +28,7 @@ answer_behind E part log e = E.tables.answer (replay E part log) e
 -- The transaction that is open behind a log. A round opens its own, and an end closes the one that is open.
 abbrev pub open_behind : Option ℕ → List Entry → Option ℕ
 open_behind now [] = now
-open_behind now (Sp call point body ∷ es) = open_behind now es
+open_behind now (Sp call client point body ∷ es) = open_behind now es
 open_behind now (Frag m round body ∷ es) = open_behind (Some m) es
 open_behind now (Done m outcome ∷ es) = open_behind None es
 
@@ -41,7 +41,7 @@ nothing_open log = is_none (open_in log)
 -- the last transaction that was done behind a log, and its outcome
 abbrev pub done_behind : Option (ℕ × Outcome) → List Entry → Option (ℕ × Outcome)
 done_behind last [] = last
-done_behind last (Sp call point body ∷ es) = done_behind last es
+done_behind last (Sp call client point body ∷ es) = done_behind last es
 done_behind last (Frag m round body ∷ es) = done_behind last es
 done_behind last (Done m outcome ∷ es) = done_behind (Some (m, outcome)) es
 
@@ -79,11 +79,11 @@ is_snapshot _ = false
 
 -- A single-partition call is applied at its entry, a call on all partitions at its end, whether it was kept or aborted.
 abbrev pub applied_by : Entry → List Applied
-applied_by (Sp call point body) = record { call = call; point = point } ∷ []
+applied_by (Sp call client point body) = record { call = call; point = point } ∷ []
 applied_by (Frag m round body) = []
 applied_by (Done m Dropped) = []
-applied_by (Done m (Kept call point)) = record { call = call; point = point } ∷ []
-applied_by (Done m (Aborted call point)) = record { call = call; point = point } ∷ []
+applied_by (Done m (Kept call client point reply)) = record { call = call; point = point } ∷ []
+applied_by (Done m (Aborted call client point reply)) = record { call = call; point = point } ∷ []
 applied_by (Done m Snapshot) = []
 
 -- the applied list of a log, in its order

@@ -12,7 +12,7 @@ use Rattle.cluster_model.specs.Letters.{Letter, open_letter}
 use Rattle.cluster_model.specs.Disk.{Shown, greatest_mark, recovered}
 use Rattle.cluster_model.specs.Director.{DirectorState}
 use Rattle.cluster_model.specs.SiteState.{SiteState, stopped_site, member_site}
-use Rattle.cluster_model.specs.World.{World, Recovery, stamp_of, new_word, greatest_done, member_agent, start_from}
+use Rattle.cluster_model.specs.World.{World, Recovery, stamp_of, new_word, greatest_done, greatest_replies, member_agent, start_from}
 
 -- ---- what the disks show
 
@@ -125,7 +125,7 @@ starts_anew E w shown =
     let logs = new_log E w shown in
     record w {
       director = draws_starts D w.director;
-      agents = λ h. if is_host D h then member_agent word (greatest_done E logs (parts D) + 1) start h else w.agents h;
+      agents = λ h. if is_host D h then member_agent word (greatest_done E logs (parts D) + 1) (greatest_replies E logs (parts D)) start h else w.agents h;
       sites = λ i. if nat_lt i (slots D) then new_site D i (w.sites i) word (start_from D start i) (logs (part_of_slot D i)) else w.sites i;
       scanners = λ i. if nat_lt i (slots D) then record { start = start_from D start i; stop = (w.scanners i).stop; scan = None } else w.scanners i;
       channel = new_channels D start w.channel;

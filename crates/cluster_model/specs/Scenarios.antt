@@ -14,6 +14,17 @@ pub mod JoinerHearsOfALoss
 pub mod StopOvertakesStart
 pub mod SecondJoinerOfASlot
 pub mod StartBelowTheInitiators
+pub mod StartBelowAMembers
+pub mod ClientsAgentCloses
+pub mod AskedTwice
+pub mod LateRequest
+pub mod LostCallRunsLater
+pub mod AskedAgainBehindRecovery
+pub mod SnapshotBeforeACall
+pub mod RecoveryFailsAsItWrites
+pub mod CancelledJoin
+pub mod StreamFails
+pub mod OutOfMemory
 use Rattle.std.specs.Prelude.{ℕ, zero, suc, ◌==◌, Bool, true, false, List, [], ◌∷◌, Option, Some, None, map}
 use Rattle.std.specs.List.{list_any}
 use Rattle.volt_base.specs.declared.entry.Applied.{Applied}

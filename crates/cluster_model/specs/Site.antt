@@ -3,7 +3,9 @@ use Rattle.std.specs.Prelude.{ℕ, ◌+◌, ◌-◌, ◌==◌, ◌&&◌, not, Bo
 use Rattle.std.specs.List.{list_any, list_all}
 use Rattle.volt_base.specs.declared.entry.Entry.{Entry}
 use Rattle.volt_base.specs.declared.entry.Entry.TheVariants.{Sp, Frag, Done}
+use Rattle.volt_base.specs.declared.entry.LastReply.{LastReply}
 use Rattle.volt_base.specs.declared.entry.Outcome.{Outcome}
+use Rattle.volt_wire.specs.declared.end.End.{End}
 use Rattle.volt_wire.specs.Word.{Membership}
 use Rattle.volt_wire.specs.Stream.{StreamHead}
 use Rattle.volt_wire.specs.declared.actor.Actor.{Actor}
@@ -12,10 +14,12 @@ use Rattle.volt_wire.specs.declared.message.Msg.{Msg}
 use Rattle.volt_wire.specs.declared.message.Msg.TheVariants as msg
 use Rattle.cluster_model.specs.Engine.{Database}
 use Rattle.cluster_model.specs.Log.{replay, answer_behind, nothing_open, open_in, last_done, is_snapshot, applied_in}
+use Rattle.cluster_model.specs.Replies.{last_replies, last_reply_to, end_of_reply, known_by}
+use Rattle.cluster_model.specs.declared.known.Known.{Known}
+use Rattle.cluster_model.specs.declared.known.Known.TheVariants.{IsNew, IsAnswered, IsPast}
 use Rattle.cluster_model.specs.Words.{Deployment, part_of_slot, host_of_slot, is_some_of, is_in, initiator, term_of, is_member}
 use Rattle.cluster_model.specs.Letters.{Blocks, same, Letter, Sends, Turn, becomes, sending, ◌▸◌, open_letter, letter_to, letter_in, only, arrival, Taken, Refused, Waits, Waiting, of_term, above_term}
 use Rattle.cluster_model.specs.SiteState.{SiteState, Joining, Reported, Held, Joiner, AskedCall, Ask, Scanning, ForJoiner, ForBase, new_joiner, stopped_site, site_term, leader_in, start_in_view, is_joiner, is_leader, leads, other_copies}
-use Rattle.cluster_model.specs.Initiator.{end_of_reply}
 
 -- ---- an entry more
 
@@ -66,16 +70,48 @@ passes_on D i e s =
 abbrev pub leads_with : Database → Deployment → ℕ → Entry → SiteState → Turn SiteState
 leads_with E D i e s = appends E D i e s ▸ passes_on D i e
 
--- an answer to the entry that is appended next waits until that is firm
+-- an answer waits until the entry at this position is firm
+abbrev pub holds_at : ℕ → SiteState → Actor → Letter → SiteState
+holds_at position s to l = record s { held = s.held ++ record { position = position; to = to; letter = l } ∷ [] }
+
+-- one to the entry that is appended next
 abbrev pub holds : SiteState → Actor → Letter → SiteState
-holds s to l = record s { held = s.held ++ record { position = length s.log + 1; to = to; letter = l } ∷ [] }
+holds s to l = holds_at (length s.log + 1) s to l
+
+abbrev pub answers_held : ℕ → List Held → Actor → List Letter
+answers_held firm held b = map (λ d. d.letter) (filter (λ d. nat_le d.position firm && same d.to b) held)
+
+-- the answers to what is firm by now are sent
+abbrev pub sends_firm : SiteState → Turn SiteState
+sends_firm s =
+    sending (record s { held = filter (λ d. nat_lt s.firm d.position) s.held }) (answers_held s.firm s.held)
+
+abbrev pub reply_to : AskedCall → End → Letter
+reply_to c e = letter_to c.start (msg.Reply c.call c.start e)
 
 -- a call runs with this stamp as its point
-abbrev pub runs_call : Database → Deployment → ℕ → ℕ → AskedCall → SiteState → Turn SiteState
-runs_call E D i stamp c s =
-    let e = Sp c.call stamp c.body in
+abbrev pub runs_anew : Database → Deployment → ℕ → ℕ → AskedCall → SiteState → Turn SiteState
+runs_anew E D i stamp c s =
+    let e = Sp c.call c.client stamp c.body in
     let reply = answer_behind E (part_of_slot D i) s.log e in
-    leads_with E D i e (holds s (Agent c.host) (letter_to c.start (msg.Reply c.call c.start (end_of_reply reply))))
+    leads_with E D i e (holds s (Agent c.host) (reply_to c (end_of_reply reply)))
+
+-- one that was run already is answered again, once all that the log has by now is firm
+abbrev pub answers_again : AskedCall → End → SiteState → Turn SiteState
+answers_again c e s = sends_firm (holds_at (length s.log) s (Agent c.host) (reply_to c e))
+
+-- what the last reply to its client says of a call
+abbrev pub known_to : Database → Deployment → ℕ → AskedCall → SiteState → Known
+known_to E D i c s = known_by c.call (last_reply_to c.client (last_replies E (part_of_slot D i) s.log))
+
+-- so a call runs, is answered again, or is dropped
+abbrev pub runs_known : Database → Deployment → ℕ → ℕ → AskedCall → SiteState → Known → Turn SiteState
+runs_known E D i stamp c s IsNew = runs_anew E D i stamp c s
+runs_known E D i stamp c s (IsAnswered e) = answers_again c e s
+runs_known E D i stamp c s IsPast = becomes s
+
+abbrev pub runs_call : Database → Deployment → ℕ → ℕ → AskedCall → SiteState → Turn SiteState
+runs_call E D i stamp c s = runs_known E D i stamp c s (known_to E D i c s)
 
 abbrev pub runs_calls : Database → Deployment → ℕ → ℕ → List AskedCall → SiteState → Turn SiteState
 runs_calls E D i stamp [] s = becomes s
@@ -87,10 +123,8 @@ works_calls E D i stamp s =
     if leads D i s && nothing_open s.log then runs_calls E D i stamp s.calls (record s { calls = [] }) else becomes s
 
 -- SpCall: the call is queued.
-abbrev pub on_sp_call : Database → Deployment → ℕ → ℕ → SiteState → ℕ → ℕ → ℕ → List ℕ → Turn SiteState
-on_sp_call E D i stamp s host call start body =
-    works_calls E D i stamp
-    (record s { calls = s.calls ++ record { call = call; host = host; start = start; body = body } ∷ [] })
+abbrev pub on_sp_call : Database → Deployment → ℕ → ℕ → SiteState → AskedCall → Turn SiteState
+on_sp_call E D i stamp s c = works_calls E D i stamp (record s { calls = s.calls ++ c ∷ [] })
 
 -- the initiator of its word: the agent, and what goes to it in the term
 abbrev pub holds_for : SiteState → Option (ℕ × ℕ) → Msg Blocks → SiteState
@@ -157,14 +191,6 @@ firm_now D i s =
 -- The floor is the least acknowledged position over copies and joiners.
 abbrev pub floor_now : Deployment → ℕ → SiteState → ℕ
 floor_now D i s = at_least s.floor (least_of (copy_acks D i s ++ map (λ j. Some j.position) s.joiners))
-
-abbrev pub answers_held : ℕ → List Held → Actor → List Letter
-answers_held firm held b = map (λ d. d.letter) (filter (λ d. nat_le d.position firm && same d.to b) held)
-
--- the answers to what is firm by now are sent
-abbrev pub sends_firm : SiteState → Turn SiteState
-sends_firm s =
-    sending (record s { held = filter (λ d. nat_lt s.firm d.position) s.held }) (answers_held s.firm s.held)
 
 abbrev pub counts : Deployment → ℕ → SiteState → Turn SiteState
 counts D i s =
@@ -310,6 +336,7 @@ stream_head E D i s =
       mark = site_term s;
       applied = applied_in s.log;
       last = last_done E (part_of_slot D i) s.log;
+      replies = last_replies E (part_of_slot D i) s.log;
     }
 
 -- It fixes the position stream_start, and sends StreamStart. A scan begins for the joiner, which gets Task from stream_start on.
@@ -431,11 +458,11 @@ on_task s (Some j) e =
 
 -- ---- what follows the handler of a message
 
--- how its partition stands: the transaction that is open, or the last one that was done
-abbrev pub standing : Option ℕ → Option (ℕ × Outcome) → Msg Blocks
-standing (Some m) last = msg.MpState m true None
-standing None None = msg.MpState 0 false None
-standing None (Some last) = msg.MpState last.0 false (Some last.1)
+-- how its partition stands: the transaction that is open, or the last one that was done, and the last replies
+abbrev pub standing : Option ℕ → Option (ℕ × Outcome) → List LastReply → Msg Blocks
+standing (Some m) last replies = msg.MpState m true None replies
+standing None None replies = msg.MpState 0 false None replies
+standing None (Some last) replies = msg.MpState last.0 false (Some last.1) replies
 
 -- all copies, itself included, have the mark of the term and every entry of its log on disk
 abbrev pub has_all_on_disk : Deployment → ℕ → SiteState → Bool
@@ -451,7 +478,8 @@ tells_initiator E D i s None = becomes s
 tells_initiator E D i s (Some first) =
     sending (record s { has_told = true })
     (only (Agent first.0)
-    (letter_in (site_term s) first.1 (standing (open_in s.log) (last_done E (part_of_slot D i) s.log))))
+    (letter_in (site_term s) first.1
+    (standing (open_in s.log) (last_done E (part_of_slot D i) s.log) (last_replies E (part_of_slot D i) s.log))))
 
 -- MpState is sent once in each term but the first, when all that the leader has is on the disks of all copies.
 abbrev pub tells : Database → Deployment → ℕ → SiteState → Turn SiteState
@@ -490,7 +518,7 @@ order_of l = elim l.body as (λ _. ℕ) [
   | msg.Reply call start e ↦ 2
   | msg.FragDone m round partial ↦ 2
   | msg.Finished m ↦ 2
-  | msg.MpState m is_open outcome ↦ 3
+  | msg.MpState m is_open outcome replies ↦ 3
   | _ ↦ 4
 ]
 
@@ -506,7 +534,8 @@ ordered t =
 
 abbrev pub from_agent : Database → Deployment → ℕ → ℕ → SiteState → ℕ → Letter → Turn SiteState
 from_agent E D stamp i s h l = elim l.body as (λ _. Turn SiteState) [
-  | msg.SpCall call start body ↦ on_sp_call E D i stamp s h call start body
+  | msg.SpCall call start client body ↦
+      on_sp_call E D i stamp s (record { call = call; client = client; host = h; start = start; body = body })
   | msg.View w ↦ on_view E D i stamp s w
   | msg.Frag m round body ↦ on_frag E D i s m round body
   | msg.Done m o ↦ on_done E D i stamp s m o

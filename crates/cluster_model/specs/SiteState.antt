@@ -6,6 +6,8 @@ use Rattle.volt_wire.specs.declared.actor.Actor.{Actor}
 use Rattle.cluster_model.specs.Words.{Deployment, part_of_slot, leader, copies, is_some_of, start_of_slot, term_in}
 use Rattle.cluster_model.specs.Letters.{Letter, Waiting}
 use Rattle.cluster_model.specs.Disk.{Shown}
+pub use Rattle.cluster_model.specs.declared.scanning.Scanning.{Scanning}
+pub use Rattle.cluster_model.specs.declared.scanning.Scanning.TheVariants.{ForJoiner, ForBase}
 
 -- the stream that a joiner took: the position at which its tables were read out, and the mark of its base
 pub record Streamed : Type 0 where
@@ -48,9 +50,10 @@ pub record Joiner : Type 0 where
   -- how many blocks it was sent, once all were and it wasn't told yet
   pub count : Option ℕ
 
--- a call that waits for its turn, and the agent's host and start that asked for it
+-- a call of a client that waits for its turn, and the agent's host and start that asked for it
 pub record AskedCall : Type 0 where
   pub call : ℕ
+  pub client : ℕ
   pub host : ℕ
   pub start : ℕ
   pub body : List ℕ
@@ -59,13 +62,6 @@ pub record AskedCall : Type 0 where
 pub record Ask : Type 0 where
   pub slot : ℕ
   pub start : ℕ
-
--- the scan that runs for this site
-pub data Scanning : Type 0 where
-  -- for the joiner of this slot
-  ForJoiner : (id : ℕ) (slot : ℕ) → Scanning
-  -- for a base at this position: how many blocks came, how many of them are written, and how many there are
-  ForBase : (id : ℕ) (position : ℕ) (blocks : ℕ) (written : ℕ) (count : Option ℕ) → Scanning
 
 pub record SiteState : Type 0 where
   -- the number of its start; 0 where it isn't running

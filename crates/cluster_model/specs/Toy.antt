@@ -3,11 +3,13 @@ use Rattle.std.specs.Prelude.{ℕ, zero, suc, ◌+◌, ◌-◌, ◌==◌, true, 
 use Rattle.volt_base.specs.Semantics.{Semantics}
 use Rattle.volt_base.specs.declared.entry.Applied.{Applied}
 use Rattle.volt_base.specs.declared.entry.Entry.{Entry}
+use Rattle.volt_base.specs.declared.entry.LastReply.{LastReply}
 use Rattle.volt_base.specs.declared.entry.Entry.TheVariants.{Sp, Frag, Done}
 use Rattle.volt_base.specs.declared.entry.Outcome.{Outcome}
 use Rattle.volt_base.specs.declared.entry.Outcome.TheVariants.{Kept, Snapshot}
 use Rattle.cluster_model.specs.Engine.{Database, CoordStep, Round, Finish}
 use Rattle.cluster_model.specs.Log.{applied_by}
+use Rattle.cluster_model.specs.Replies.{replies_after}
 
 -- ---- accounts
 
@@ -27,11 +29,12 @@ abbrev pub set_balance : ℕ → ℕ → Accounts → Accounts
 set_balance id bal [] = []
 set_balance id bal (a ∷ as_) = if a.0 == id then (id, bal) ∷ as_ else a ∷ set_balance id bal as_
 
--- a partition's accounts, those from before the transaction that is open, and the calls that were applied
+-- a partition's accounts, those from before the transaction that is open, the calls that were applied, and the last replies
 pub record Toy : Type 0 where
   pub accounts : Accounts
   pub saved : Option Accounts
   pub applied : List Applied
+  pub replies : List LastReply
 
 -- ---- calls and their bodies
 
@@ -116,23 +119,24 @@ part_of_round body accounts = []
 
 -- ---- the engine
 
-abbrev pub notes : Toy → Entry → Toy
-notes t e = record t { applied = t.applied ++ applied_by e }
+abbrev pub notes : Toy → Entry → List ℕ → Toy
+notes t e answer = record t { applied = t.applied ++ applied_by e; replies = replies_after e answer t.replies }
 
 -- an end keeps what its transaction did, or restores what was before it
 abbrev pub ends : Toy → Outcome → Toy
 ends t Snapshot = t
-ends t (Kept call point) = record t { saved = None }
+ends t (Kept call client point reply) = record t { saved = None }
 ends t o = record t { accounts = unwrap_or t.saved t.accounts; saved = None }
 
 abbrev pub toy_after : Toy → Entry → Toy
-toy_after t (Sp call point body) = notes (record t { accounts = accounts_after body t.accounts }) (Sp call point body)
+toy_after t (Sp call client point body) =
+    notes (record t { accounts = accounts_after body t.accounts }) (Sp call client point body) (reply_to body t.accounts)
 toy_after t (Frag m round body) =
     record t { accounts = accounts_after body t.accounts; saved = Some (unwrap_or t.saved t.accounts) }
-toy_after t (Done m o) = notes (ends t o) (Done m o)
+toy_after t (Done m o) = notes (ends t o) (Done m o) []
 
 abbrev pub toy_answer : Toy → Entry → List ℕ
-toy_answer t (Sp call point body) = reply_to body t.accounts
+toy_answer t (Sp call client point body) = reply_to body t.accounts
 toy_answer t (Frag m round body) = part_of_round body t.accounts
 toy_answer t (Done m o) = []
 
@@ -140,12 +144,13 @@ abbrev pub toy_tables : Semantics
 toy_tables =
     record {
       State = Toy;
-      opening = λ p. record { accounts = []; saved = None; applied = [] };
+      opening = λ p. record { accounts = []; saved = None; applied = []; replies = [] };
       fits = λ t e. true;
       after = toy_after;
       answer = toy_answer;
       rows = λ t. flat_map (λ a. a.0 ∷ a.1 ∷ []) t.accounts;
       applied = λ t. t.applied;
+      replies = λ t. t.replies;
     }
 
 -- ---- calls on all partitions

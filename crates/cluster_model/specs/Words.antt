@@ -2,13 +2,8 @@
 use Rattle.std.specs.Prelude.{ℕ, ◌≤◌, ◌+◌, ◌==◌, ◌&&◌, ◌||◌, Bool, true, false, not, nat_lt, nat_le, if◌then◌else◌, List, [], ◌∷◌, ◌++◌, map, filter, find, length, Option, Some, None, is_some}
 use Rattle.std.specs.List.{list_any, list_all, range_with_len}
 use Rattle.partition_ring.specs.Placement.{IsLayout, slots_of, parts_of, part_of, host_of, start_in, copies_of}
-use Rattle.partition_ring.specs.declared.layout.Layout.{Layout}
 use Rattle.volt_wire.specs.Word.{Membership}
-
--- What a cluster is made of: its layout, and how many clients it serves.
-pub record Deployment : Type 0 where
-  pub layout : Layout
-  pub clients : ℕ
+pub use Rattle.partition_ring.specs.declared.deployment.Deployment.{Deployment}
 
 -- ---- numbers of a deployment
 

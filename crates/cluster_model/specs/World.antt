@@ -2,6 +2,7 @@
 use Rattle.std.specs.Prelude.{ℕ, zero, suc, ◌≡◌, ◌<◌, ◌+◌, ◌-◌, ◌%◌, ◌==◌, ◌&&◌, Bool, true, false, nat_lt, nat_le, if◌then◌else◌, max, List, [], ◌∷◌, ◌++◌, length, Option, Some, None}
 use Rattle.std.specs.List.{list_all}
 use Rattle.volt_base.specs.declared.entry.Entry.{Entry}
+use Rattle.volt_base.specs.declared.entry.LastReply.{LastReply}
 use Rattle.volt_wire.specs.Word.{Membership}
 use Rattle.volt_wire.specs.declared.actor.Actor.{Actor}
 use Rattle.volt_wire.specs.declared.actor.Actor.TheVariants.{Director, Client, Agent, Site, Scanner}
@@ -11,8 +12,9 @@ use Rattle.volt_wire.specs.declared.item.Item.TheVariants as item
 use Rattle.volt_wire.specs.declared.item.TimedItem.{TimedItem}
 use Rattle.cluster_model.specs.Engine.{Database}
 use Rattle.cluster_model.specs.Words.{Deployment, IsDeployment, slots, parts, part_of_slot, host_of_slot, is_host, is_client}
-use Rattle.cluster_model.specs.Letters.{same, Letter, Sends, Turn}
+use Rattle.cluster_model.specs.Letters.{same, Letter, Turn}
 use Rattle.cluster_model.specs.Log.{last_done, number_of}
+use Rattle.cluster_model.specs.Replies.{with_replies, last_replies}
 use Rattle.cluster_model.specs.Director.{DirectorState}
 use Rattle.cluster_model.specs.Client.{ClientState, Due}
 use Rattle.cluster_model.specs.AgentState.{AgentState, Initiating, Idle, new_agent, no_initiator}
@@ -71,11 +73,11 @@ rest [] = []
 rest (x ∷ xs) = xs
 
 -- the channels after `to` took the first message from `from`
-abbrev pub took : (Actor → Actor → List Letter) → Actor → Actor → Actor → Actor → List Letter
+abbrev pub took : {A : Type 0} → (Actor → Actor → List A) → Actor → Actor → Actor → Actor → List A
 took channel from to a b = if same to b && same from a then rest (channel a b) else channel a b
 
 -- the channels after `from` sent these messages
-abbrev pub sent : (Actor → Actor → List Letter) → Actor → Sends → Actor → Actor → List Letter
+abbrev pub sent : {A : Type 0} → (Actor → Actor → List A) → Actor → (Actor → List A) → Actor → Actor → List A
 sent channel from sends a b = if same from a then channel a b ++ sends b else channel a b
 
 -- the stamp of the event that happens next
@@ -142,15 +144,20 @@ abbrev pub greatest_done : Database → (ℕ → List Entry) → ℕ → ℕ
 greatest_done E logs zero = 0
 greatest_done E logs (suc p) = max (number_of (last_done E p (logs p))) (greatest_done E logs p)
 
+-- of each client's calls that these partitions, those below a number, replied to last, the greatest
+abbrev pub greatest_replies : Database → (ℕ → List Entry) → ℕ → List LastReply
+greatest_replies E logs zero = []
+greatest_replies E logs (suc p) = with_replies (last_replies E p (logs p)) (greatest_replies E logs p)
+
 -- the agent of the first member, host 0, is the initiator and idle
-abbrev pub first_initiating : ℕ → ℕ → Initiating
-first_initiating zero next = record no_initiator { phase = Idle; next = next }
-first_initiating (suc h) next = no_initiator
+abbrev pub first_initiating : ℕ → ℕ → List LastReply → Initiating
+first_initiating zero next replies = record no_initiator { phase = Idle; next = next; replies = replies }
+first_initiating (suc h) next replies = no_initiator
 
 -- the agent of a host that begins with this word, whose hosts have their starts from this one on
-abbrev pub member_agent : Membership → ℕ → ℕ → ℕ → AgentState
-member_agent w next start h =
-    record (new_agent (start + h)) { own = Some w; decided = Some w; initiating = first_initiating h next }
+abbrev pub member_agent : Membership → ℕ → List LastReply → ℕ → ℕ → AgentState
+member_agent w next replies start h =
+    record (new_agent (start + h)) { own = Some w; decided = Some w; initiating = first_initiating h next replies }
 
 -- ---- the first world
 
@@ -238,7 +245,7 @@ first_world E I =
       deployment = D;
       director = first_director I;
       clients = first_client I;
-      agents = λ h. if is_host D h then member_agent w (greatest_done E (λ p. []) (parts D) + 1) 1 h else new_agent 0;
+      agents = λ h. if is_host D h then member_agent w (greatest_done E (λ p. []) (parts D) + 1) [] 1 h else new_agent 0;
       sites = λ i. if nat_lt i (slots D) then member_site D i no_site w (start_from D 1 i) [] else no_site;
       scanners = λ i. record { start = if nat_lt i (slots D) then start_from D 1 i else 0; stop = 0; scan = None };
       channel = λ a b. [];

@@ -1,7 +1,8 @@
 -- What is under way behind a turn: what was sent, and what was taken.
-use Rattle.cluster_steps.proofs.Names.{◌≡◌, Bool, true, false, List, [], ◌∷◌, ◌++◌, append_assoc, refl, sym, ap, ◌∙◌, ◌==◌, arith, append-nil, and_parts, eqb-true, nat_tests, fun_ext, ℕ, ◌&&◌, if◌then◌else◌, AllByRecursion, Actor, Director, Agent, Deployment, is_host, same, Letter, Sends, open_letter, no_sends, took, sent, rest, stops_host, stops_all, RiseFrom, starts_in, start_in_letter, cond_both}
+use Rattle.cluster_steps.proofs.Names.{◌≡◌, Bool, true, false, List, [], ◌∷◌, ◌++◌, append_assoc, refl, sym, subst, ap, ◌∙◌, ◌==◌, true≢false, arith, append-nil, and_parts, eqb-true, nat_tests, fun_ext, ℕ, ◌&&◌, if◌then◌else◌, AllByRecursion, Actor, Director, Agent, Deployment, is_host, same, Letter, Sends, open_letter, no_sends, took, sent, rest, stops_host, stops_all, RiseFrom, starts_in, start_in_letter, cond_both}
+use Rattle.volt_wire.specs.declared.actor.Actor.TheVariants.{Client, Site, Scanner}
 use Rattle.volt_wire.specs.declared.message.Msg.TheVariants as msg
-use Rattle.cluster_steps.proofs.Lists.{all-if, all-rest, all-behind, rise-behind}
+use Rattle.cluster_steps.proofs.Lists.{all-append, all-if, all-rest, all-behind, rise-behind}
 
 -- ---- channels behind a turn
 
@@ -79,3 +80,19 @@ starts-rise ch from to g h = cond_both (same to (Agent g) && same from Director)
     left : (ls : List Letter) → RiseFrom 0 (starts_in ls) → RiseFrom 0 (starts_in (rest ls))
     left [] h = h
     left (l ∷ ls) h = rise-behind 0 (start_in_letter l) (starts_in ls) h
+
+-- ---- what holds of all that is under way
+
+pub same-true : (a b : Actor) → same a b ≡ true → a ≡ b
+same-true Director Director e = refl
+same-true (Client a) (Client b) e = ap Client (eqb-true a b e)
+same-true (Agent a) (Agent b) e = ap Agent (eqb-true a b e)
+same-true (Site a) (Site b) e = ap Site (eqb-true a b e)
+same-true (Scanner a) (Scanner b) e = ap Scanner (eqb-true a b e)
+same-true a b e = absurd (true≢false (sym e))
+
+-- behind a turn, where it holds of what was sent
+pub sent-all : (P : Actor → Actor → Letter → Type 0) (ch : Actor → Actor → List Letter) (x : Actor) (out : Sends)
+    → ((a b : Actor) → AllByRecursion (P a b) (ch a b)) → ((b : Actor) → AllByRecursion (P x b) (out b)) → (a b : Actor) → AllByRecursion (P a b) (sent ch x out a b)
+sent-all P ch x out old new a b = cond_both (same x a) _ _ (AllByRecursion (P a b))
+    (λ q. all-append (P a b) (ch a b) (out b) (old a b) (subst (λ y. AllByRecursion (P y b) (out b)) (same-true x a q) (new b))) (λ q. old a b)

@@ -11,7 +11,7 @@ InertLetter l = elim l.body as (λ _. Type 0) [
   | msg.Reply call start end ↦ ⊥
   | msg.FragDone m round partial ↦ ⊥
   | msg.Finished m ↦ ⊥
-  | msg.MpState m is_open outcome ↦ ⊥
+  | msg.MpState m is_open outcome replies ↦ ⊥
   | _ ↦ Unit {0}
 ]
 
@@ -30,12 +30,11 @@ turn-assoc t f g =
 
 -- ---- what changes
 
--- the first site with the second one's floor, queues, scans and what it has told: what no law goes by
+-- the first site with the second one's floor, scans, those that ask to join or to see its tables, and what it has told: what no law goes by
 abbrev pub with_rest : SiteState → SiteState → SiteState
 with_rest s u = record s {
   floor = u.floor;
   has_told = u.has_told;
-  calls = u.calls;
   asks = u.asks;
   scans = u.scans;
   scanning = u.scanning;

@@ -4,7 +4,7 @@ use Rattle.volt_wire.specs.declared.message.Msg.TheVariants as msg
 use Rattle.cluster_steps.proofs.Lists.{all-append, all-at, all-from, all-if, all-mono, all-one, in-filter, same-some}
 use Rattle.cluster_steps.proofs.Frames.{InertLetter, InertSends, holds_for-cases}
 use Rattle.cluster_steps.proofs.Steps.{KnownOf, LetsGo, SmallSteps, SayingSteps, HandlerSteps, MayBeTold, with_entry, with_stream}
-use Rattle.cluster_steps.proofs.SiteWalk.{after_sync-walk, as_member-walk, asks_to_join-inert, handler-walk, settled_turn, settled-walk}
+use Rattle.cluster_steps.proofs.SiteWalk.{after_sync-walk, as_member-walk, asks_to_join-inert, handler-walk, settled_turn, settled-walk, works_calls-walk}
 
 -- ---- a joiner that asked is taken
 
@@ -147,7 +147,13 @@ module _ (E : Database) (D : Deployment) (i : ℕ) where
   keeps-steps : (stamp : ℕ) → HandlerSteps E D stamp i (λ s from l. NoWord from l) KeepsWord
   keeps-steps stamp = record {
     settles = keeps-settles;
-    called = λ s authoritative clear c. keeps-same s _ refl refl refl;
+    queued = λ s h l call start client body k. keeps-same s _ refl refl refl;
+    works = works_calls-walk E D stamp i KeepsWord (record {
+      moves = keeps-settles.moves;
+      cleared = λ s. keeps-same s _ refl refl refl;
+      called = λ s authoritative clear c is. keeps-same s _ refl refl refl;
+      answered = λ s authoritative clear c e is. keeps-same s _ refl refl refl;
+    });
     round = λ s h l m round body k authoritative. keeps-entry s (initiator_in s.view) _ (Frag m round body);
     ended = λ s h l m o k authoritative. keeps-entry s (initiator_in s.view) _ (Done m o);
     word = λ s h l w k. k;
@@ -389,26 +395,27 @@ pub record Wrote (s b : SiteState) : Type 0 where
   pub held : b.held ≡ s.held
   pub joiners : b.joiners ≡ s.joiners
   pub waiting : b.waiting ≡ s.waiting
+  pub calls : b.calls ≡ s.calls
   pub member : b.joining ≡ None → s.joining ≡ None
 
 pub wrote : (s : SiteState) → Wrote s (written_site s)
 wrote s = go s.joining refl
   where
     same : (b : SiteState) → b.start ≡ s.start → b.view ≡ s.view → b.log ≡ s.log → b.repaired ≡ s.repaired → b.held ≡ s.held → b.joiners ≡ s.joiners
-        → b.waiting ≡ s.waiting → (b.joining ≡ None → s.joining ≡ None) → Wrote s b
-    same b start view log repaired held joiners waiting member =
-        record { start = start; view = view; log = log; repaired = repaired; held = held; joiners = joiners; waiting = waiting; member = member }
+        → b.waiting ≡ s.waiting → b.calls ≡ s.calls → (b.joining ≡ None → s.joining ≡ None) → Wrote s b
+    same b start view log repaired held joiners waiting calls member =
+        record { start = start; view = view; log = log; repaired = repaired; held = held; joiners = joiners; waiting = waiting; calls = calls; member = member }
 
     shown : List Shown
     shown = after_parts s.contents (parts_of_sync s s.joining)
 
     streams : (j : Joining) → s.joining ≡ Some j → (o : Option Streamed) → Wrote s (record (joiner_written s j o) { contents = shown })
-    streams j e None = same _ refl refl refl refl refl refl refl (λ none. none)
+    streams j e None = same _ refl refl refl refl refl refl refl refl (λ none. none)
     streams j e (Some st) = cond_both j.is_loaded _ _ (λ (z : SiteState). Wrote s (record z { contents = shown }))
-        (λ _. same _ refl refl refl refl refl refl refl (λ none. absurd (cc))) (λ _. same _ refl refl refl refl refl refl refl (λ none. absurd (cc)))
+        (λ _. same _ refl refl refl refl refl refl refl refl (λ none. absurd (cc))) (λ _. same _ refl refl refl refl refl refl refl refl (λ none. absurd (cc)))
 
     go : (o : Option Joining) → s.joining ≡ o → Wrote s (record (written s o) { contents = shown })
-    go None e = same _ refl refl refl refl refl refl refl (λ none. none)
+    go None e = same _ refl refl refl refl refl refl refl refl (λ none. none)
     go (Some j) e = streams j e j.stream
 
 -- ---- what waits behind a turn

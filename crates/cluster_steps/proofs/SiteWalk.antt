@@ -1,20 +1,23 @@
 -- What goes on over each small step of a site goes on over each of its handlers, and over what follows one.
 use Rattle.cluster_steps.proofs.Names.{◌≡◌, Bool, true, false, List, [], ◌∷◌, ◌++◌, refl, sym, subst, ap, ◌∙◌, ◌==◌, and_parts, not-true, ℕ, ◌+◌, ◌&&◌, ◌-◌, not, map, max, filter, drop, length, replicate, nat_lt, if◌then◌else◌, Option, Some, None, is_none, is_some, AllByRecursion, list_any, list_all, Entry, Sp, Frag, Done, Outcome, StreamHead, Actor, Director, Client, Agent, Site, Scanner, Database, is_snapshot, answer_behind, nothing_open, open_behind, Deployment, part_of_slot, host_of_slot, is_in, same, Letter, Sends, Turn, becomes, sending, ◌▸◌, only, SiteState, Joining, Joiner, Reported, AskedCall, Scanning, ForJoiner, ForBase, is_joiner, is_leader, leads, leader_in, other_copies, site_term, begins_base, appends, appends_all, put_to, tasks_to, passes_on, leads_with, holds, runs_call, runs_calls, works_calls, on_sp_call, holds_for, initiator_in, on_frag, on_done, counts, noted, on_ack, repair_to, is_repaired, longest, lacks, repairs, on_report, reports_to, asks_to_join, as_member, on_put, on_repair, on_join_ask, is_sent, without_count, ends_streams, with_count, on_scan_end, may_finish, may_stream, on_stream_start, finishes_load, on_chunk, on_stream_end, on_task, is_first_term, has_all_on_disk, tells, tells_initiator, looked, shows, from_agent, from_site, from_scanner, from_director, site_handler, acknowledges, says_loaded, after_sync, cond_both}
 use Rattle.volt_wire.specs.declared.message.Msg.TheVariants as msg
+use Rattle.cluster_model.specs.Site.{answers_again, runs_anew, known_to, runs_known}
+use Rattle.cluster_model.specs.declared.known.Known.{Known}
+use Rattle.cluster_model.specs.declared.known.Known.TheVariants.{IsNew, IsAnswered, IsPast}
 use Rattle.cluster_steps.proofs.Lists.{all-append, all-if, all-map, all-one}
 use Rattle.cluster_steps.proofs.Prefixes.{prefix-append, prefix-refl}
 use Rattle.cluster_steps.proofs.Frames.{InertLetter, InertSends, AlikeJoiners, all-replicate, counted-alike, positioned, turn-assoc, uncounted-alike, with_rest}
 use Rattle.cluster_steps.proofs.Appends.{Appended, appends-all, grown}
-use Rattle.cluster_steps.proofs.Steps.{MayTell, SmallSteps, SayingSteps, HandlerSteps, MayBeTold, reply_to, with_acks, with_entry, with_reported}
+use Rattle.cluster_steps.proofs.Steps.{MayTell, SmallSteps, SayingSteps, CallSteps, HandlerSteps, MayBeTold, reply_to, with_acks, with_call, with_entry, with_reported}
 
 -- ---- calls and tests
 
 -- a call opens and ends nothing
-call-opens : (now : Option ℕ) (log : List Entry) (call point : ℕ) (body : List ℕ) → open_behind now (log ++ Sp call point body ∷ []) ≡ open_behind now log
-call-opens now [] call point body = refl
-call-opens now (Sp c p b ∷ log) call point body = call-opens now log call point body
-call-opens now (Frag m round b ∷ log) call point body = call-opens (Some m) log call point body
-call-opens now (Done m o ∷ log) call point body = call-opens None log call point body
+pub call-opens : (now : Option ℕ) (log : List Entry) (call client point : ℕ) (body : List ℕ) → open_behind now (log ++ Sp call client point body ∷ []) ≡ open_behind now log
+call-opens now [] call client point body = refl
+call-opens now (Sp c n p b ∷ log) call client point body = call-opens now log call client point body
+call-opens now (Frag m round b ∷ log) call client point body = call-opens (Some m) log call client point body
+call-opens now (Done m o ∷ log) call client point body = call-opens None log call client point body
 
 may-tell : (D : Deployment) (i : ℕ) (s : SiteState) → (leads D i s && not s.has_told && not (is_first_term s.view) && has_all_on_disk D i s) ≡ true → MayTell D i s
 may-tell D i s e =
@@ -142,14 +145,9 @@ module _ (D : Deployment) (i : ℕ) (R : SiteState → Turn SiteState → Type 0
           (subst (λ b. R b (says_loaded D i b j)) (sym (state to)) (says_loaded-walk s j e)))
           (λ _. M.first s)
 
--- ---- that of a handler
+-- ---- entries, and calls that wait
 
-module _ (E : Database) (D : Deployment) (stamp i : ℕ) (K : SiteState → Actor → Letter → Type 0) (R : SiteState → Turn SiteState → Type 0) (W : HandlerSteps E D stamp i K R) where
-  abbrev S : SmallSteps R
-  S = W.settles.moves
-
-  -- ---- entries
-
+module _ (E : Database) (D : Deployment) (i : ℕ) (R : SiteState → Turn SiteState → Type 0) (S : SmallSteps R) where
   -- An entry is appended to h, and a base may begin.
   appends-walk : (s h : SiteState) (e : Entry) → R s (becomes (with_entry h e)) → R s (appends E D i e h)
   appends-walk s h e k =
@@ -157,6 +155,49 @@ module _ (E : Database) (D : Deployment) (stamp i : ℕ) (K : SiteState → Acto
       walk-behind R S s b (appends E D i e h) k
       (walk-if R S b (is_snapshot e && is_none b.scanning && not (is_joiner b)) (begins_base E D i b) (becomes b)
       (λ _. rest-says R S b (begins_base E D i b).state (begins_base E D i b).sends (only-inert (Scanner i) _ tt)) (λ _. S.first b))
+
+  -- and passed on
+  pub leads_with-walk : (s h : SiteState) (e : Entry) → R s (becomes (with_entry h e)) → R s (leads_with E D i e h)
+  leads_with-walk s h e k =
+      let t = appends E D i e h in
+      S.next s t (passes_on D i e) (appends-walk s h e k) (S.says t.state (passes_on D i e t.state).sends (passes_on-inert D i e t.state))
+
+module _ (E : Database) (D : Deployment) (stamp i : ℕ) (R : SiteState → Turn SiteState → Type 0) (W : CallSteps E D stamp i R) where
+  abbrev C : SmallSteps R
+  C = W.moves
+
+  -- ---- calls
+
+  runs_calls-walk : (cs : List AskedCall) (s : SiteState) → leads D i s ≡ true → nothing_open s.log ≡ true → R s (runs_calls E D i stamp cs s)
+  runs_calls-walk [] s authoritative clear = C.first s
+  runs_calls-walk (c ∷ cs) s authoritative clear = by_known (known_to E D i c s) refl (runs_calls-walk cs)
+    where
+      by_known : (k : Known) → known_to E D i c s ≡ k → ((u : SiteState) → leads D i u ≡ true → nothing_open u.log ≡ true → R u (runs_calls E D i stamp cs u))
+          → R s (runs_known E D i stamp c s k ▸ runs_calls E D i stamp cs)
+      by_known IsNew is later =
+          let e = Sp c.call c.client stamp c.body in
+          let h = holds s (Agent c.host) (reply_to E D i stamp c s) in
+          C.next s (runs_anew E D i stamp c s) (runs_calls E D i stamp cs) (leads_with-walk E D i R C s h e (W.called s authoritative clear c is))
+          (later (with_entry h e) authoritative (ap is_none (call-opens None s.log c.call c.client stamp c.body) ∙ clear))
+      by_known (IsAnswered e) is later =
+          let t = answers_again c e s in
+          C.next s t (runs_calls E D i stamp cs) (W.answered s authoritative clear c e is) (later t.state authoritative clear)
+      by_known IsPast is later = later s authoritative clear
+
+  pub works_calls-walk : (s : SiteState) → R s (works_calls E D i stamp s)
+  works_calls-walk s =
+      let b = record s { calls = [] } in
+      walk-if R C s (leads D i s && nothing_open s.log) (runs_calls E D i stamp s.calls b) (becomes s)
+      (λ e. let p = and_parts (leads D i s) (nothing_open s.log) e in
+      walk-behind R C s b (runs_calls E D i stamp s.calls b) (W.cleared s) (runs_calls-walk s.calls b p.0 p.1)) (λ _. C.first s)
+
+-- ---- that of a handler
+
+module _ (E : Database) (D : Deployment) (stamp i : ℕ) (K : SiteState → Actor → Letter → Type 0) (R : SiteState → Turn SiteState → Type 0) (W : HandlerSteps E D stamp i K R) where
+  abbrev S : SmallSteps R
+  S = W.settles.moves
+
+  -- ---- entries
 
   -- So is each of these, to m but for its log.
   appends_all-walk : (s h : SiteState) (es : List Entry) → R s (becomes (record h { log = h.log ++ es })) → R s (appends_all E D i es h)
@@ -167,33 +208,13 @@ module _ (E : Database) (D : Deployment) (stamp i : ℕ) (K : SiteState → Acto
       walk-behind R S s m t k
       (subst (λ x. R m (sending x t.sends)) (sym all.state) (rest-says R S m (grown h es all.scans all.scanning) t.sends all.plain))
 
-  -- and passed on
-  pub leads_with-walk : (s h : SiteState) (e : Entry) → R s (becomes (with_entry h e)) → R s (leads_with E D i e h)
-  leads_with-walk s h e k =
-      let t = appends E D i e h in
-      S.next s t (passes_on D i e) (appends-walk s h e k) (S.says t.state (passes_on D i e t.state).sends (passes_on-inert D i e t.state))
+  -- ---- a call
 
-  -- ---- calls
-
-  runs_calls-walk : (cs : List AskedCall) (s : SiteState) → leads D i s ≡ true → nothing_open s.log ≡ true → R s (runs_calls E D i stamp cs s)
-  runs_calls-walk [] s authoritative clear = S.first s
-  runs_calls-walk (c ∷ cs) s authoritative clear =
-      let e = Sp c.call stamp c.body in
-      let h = holds s (Agent c.host) (reply_to E D i stamp c s) in
-      S.next s (runs_call E D i stamp c s) (runs_calls E D i stamp cs) (leads_with-walk s h e (W.called s authoritative clear c))
-      (runs_calls-walk cs (with_entry h e) authoritative (ap is_none (call-opens None s.log c.call stamp c.body) ∙ clear))
-
-  pub works_calls-walk : (s : SiteState) → R s (works_calls E D i stamp s)
-  works_calls-walk s =
-      let b = record s { calls = [] } in
-      walk-if R S s (leads D i s && nothing_open s.log) (runs_calls E D i stamp s.calls b) (becomes s)
-      (λ e. let p = and_parts (leads D i s) (nothing_open s.log) e in
-      walk-behind R S s b (runs_calls E D i stamp s.calls b) (S.rest s b) (runs_calls-walk s.calls b p.0 p.1)) (λ _. S.first s)
-
-  on_sp_call-walk : (s : SiteState) (host call start : ℕ) (body : List ℕ) → R s (on_sp_call E D i stamp s host call start body)
-  on_sp_call-walk s host call start body =
-      let b = record s { calls = s.calls ++ record { call = call; host = host; start = start; body = body } ∷ [] } in
-      walk-behind R S s b (works_calls E D i stamp b) (S.rest s b) (works_calls-walk b)
+  on_sp_call-walk : (s : SiteState) (h : ℕ) (l : Letter) (call start client : ℕ) (body : List ℕ) → K s (Agent h) (record l { body = msg.SpCall call start client body })
+      → R s (on_sp_call E D i stamp s (record { call = call; client = client; host = h; start = start; body = body }))
+  on_sp_call-walk s h l call start client body k =
+      let c : AskedCall = record { call = call; client = client; host = h; start = start; body = body } in
+      let b = with_call s c in walk-behind R S s b (works_calls E D i stamp b) (W.queued s h l call start client body k) (W.works b)
 
   -- ---- rounds and ends, which a leader appends
 
@@ -201,14 +222,14 @@ module _ (E : Database) (D : Deployment) (stamp i : ℕ) (K : SiteState → Acto
   on_frag-walk s h l m round body k =
       let e = Frag m round body in
       let b = holds_for s (initiator_in s.view) (msg.FragDone m round (answer_behind E (part_of_slot D i) s.log e)) in
-      walk-if R S s (leads D i s) (leads_with E D i e b) (becomes s) (λ q. leads_with-walk s b e (W.round s h l m round body k q)) (λ _. S.first s)
+      walk-if R S s (leads D i s) (leads_with E D i e b) (becomes s) (λ q. leads_with-walk E D i R S s b e (W.round s h l m round body k q)) (λ _. S.first s)
 
   on_done-walk : (s : SiteState) (h : ℕ) (l : Letter) (m : ℕ) (o : Outcome) → K s (Agent h) (record l { body = msg.Done m o }) → R s (on_done E D i stamp s m o)
   on_done-walk s h l m o k =
       let b = holds_for s (initiator_in s.view) (msg.Finished m) in
       let t = leads_with E D i (Done m o) b in
       walk-if R S s (leads D i s) (t ▸ works_calls E D i stamp) (becomes s)
-      (λ q. S.next s t (works_calls E D i stamp) (leads_with-walk s b (Done m o) (W.ended s h l m o k q)) (works_calls-walk t.state)) (λ _. S.first s)
+      (λ q. S.next s t (works_calls E D i stamp) (leads_with-walk E D i R S s b (Done m o) (W.ended s h l m o k q)) (W.works t.state)) (λ _. S.first s)
 
   -- ---- acknowledgements
 
@@ -229,7 +250,7 @@ module _ (E : Database) (D : Deployment) (stamp i : ℕ) (K : SiteState → Acto
       → R s (appends_all E D i (lacks (length s.log) (longest (length s.log) None s.reports)) s ▸ is_repaired E D i stamp)
   begins-walk s authoritative un all =
       let behind : R s (t ▸ repaired) = subst (λ a. R s (sending (repaired a).state (out a))) (sym one.state) from-grown in
-      subst (R s) (turn-assoc t repaired (works_calls E D i stamp)) (S.next s (t ▸ repaired) (works_calls E D i stamp) behind (works_calls-walk (repaired t.state).state))
+      subst (R s) (turn-assoc t repaired (works_calls E D i stamp)) (S.next s (t ▸ repaired) (works_calls E D i stamp) behind (W.works (repaired t.state).state))
     where
       es : List Entry
       es = lacks (length s.log) (longest (length s.log) None s.reports)
@@ -287,7 +308,7 @@ module _ (E : Database) (D : Deployment) (stamp i : ℕ) (K : SiteState → Acto
   on_put-walk s slot l position e floor k =
       let h = record s { floor = max s.floor floor } in
       let m = with_entry s e in let u = with_entry h e in
-      appends-walk s h e (walk-behind R S s m (becomes u) (W.put s slot l position e floor k) (S.rest m u))
+      appends-walk E D i R S s h e (walk-behind R S s m (becomes u) (W.put s slot l position e floor k) (S.rest m u))
 
   on_repair-walk : (s : SiteState) (slot : ℕ) (l : Letter) (from : ℕ) (entries : List Entry) → K s (Site slot) (record l { body = msg.Repair from entries })
       → R s (on_repair E D i s from entries)
@@ -347,7 +368,7 @@ module _ (E : Database) (D : Deployment) (stamp i : ℕ) (K : SiteState → Acto
   module _ (s : SiteState) where
     from_agent-walk : (h : ℕ) (l : Letter) → K s (Agent h) l → R s (from_agent E D stamp i s h l)
     from_agent-walk h l = elim l.body as (λ b. K s (Agent h) (record l { body = b }) → R s (from_agent E D stamp i s h (record l { body = b }))) [
-      | msg.SpCall call start body ↦ λ k. on_sp_call-walk s h call start body
+      | msg.SpCall call start client body ↦ λ k. on_sp_call-walk s h l call start client body k
       | msg.View w ↦ λ k. absurd (W.word s h l w k)
       | msg.Frag m round body ↦ λ k. on_frag-walk s h l m round body k
       | msg.Done m o ↦ λ k. on_done-walk s h l m o k

@@ -1,6 +1,9 @@
 -- The small steps of which each turn of a site consists: a relation that goes on over each of them goes on over the turn.
 use Rattle.cluster_steps.proofs.Names.{◌≡◌, true, false, List, [], ◌∷◌, ◌++◌, ◌==◌, ℕ, map, drop, length, ◌-◌, Some, None, list_any, list_all, Entry, Sp, Frag, Done, Outcome, StreamHead, Membership, Actor, Agent, Site, Database, answer_behind, nothing_open, Deployment, part_of_slot, Letter, Sends, Waiting, Turn, becomes, sending, ◌▸◌, letter_to, SiteState, Joining, Joiner, AskedCall, is_leader, leads, other_copies, site_term, holds, holds_for, initiator_in, firm_now, floor_now, sends_firm, longest, lacks, may_stream, is_first_term, has_all_on_disk, tells_initiator, end_of_reply, In, Prefix}
 use Rattle.volt_wire.specs.declared.message.Msg.TheVariants as msg
+use Rattle.volt_wire.specs.declared.end.End.{End}
+use Rattle.cluster_model.specs.Site.{answers_again, known_to, works_calls}
+use Rattle.cluster_model.specs.declared.known.Known.TheVariants.{IsNew, IsAnswered}
 use Rattle.cluster_steps.proofs.Frames.{InertSends, AlikeJoiner, AlikeJoiners, with_rest}
 
 -- ---- states behind a step
@@ -8,7 +11,11 @@ use Rattle.cluster_steps.proofs.Frames.{InertSends, AlikeJoiner, AlikeJoiners, w
 -- the answer of a partition that is appended next
 abbrev pub reply_to : Database → Deployment → ℕ → ℕ → AskedCall → SiteState → Letter
 reply_to E D i stamp c s =
-    letter_to c.start (msg.Reply c.call c.start (end_of_reply (answer_behind E (part_of_slot D i) s.log (Sp c.call stamp c.body))))
+    letter_to c.start (msg.Reply c.call c.start (end_of_reply (answer_behind E (part_of_slot D i) s.log (Sp c.call c.client stamp c.body))))
+
+-- the site with a call more that waits
+abbrev pub with_call : SiteState → AskedCall → SiteState
+with_call s c = record s { calls = s.calls ++ c ∷ [] }
 
 -- the site with an entry more
 abbrev pub with_entry : SiteState → Entry → SiteState
@@ -73,12 +80,25 @@ pub record SayingSteps (D : Deployment) (i : ℕ) (R : SiteState → Turn SiteSt
   pub counted : (s : SiteState) → leads D i s ≡ true → (acks : List (ℕ × ℕ)) (joiners : List Joiner) → AlikeJoiners joiners s.joiners
       → R s (counts_with D i (with_acks s acks joiners))
 
+-- over those of the calls that wait,
+pub record CallSteps (E : Database) (D : Deployment) (stamp i : ℕ) (R : SiteState → Turn SiteState → Type 0) : Type 0 where
+  pub moves : SmallSteps R
+  pub cleared : (s : SiteState) → R s (becomes (record s { calls = [] }))
+  -- a call that is new runs, and its reply is held
+  pub called : (s : SiteState) → leads D i s ≡ true → nothing_open s.log ≡ true → (c : AskedCall) → known_to E D i c s ≡ IsNew
+      → R s (becomes (with_entry (holds s (Agent c.host) (reply_to E D i stamp c s)) (Sp c.call c.client stamp c.body)))
+  -- one that was run already is answered again
+  pub answered : (s : SiteState) → leads D i s ≡ true → nothing_open s.log ≡ true → (c : AskedCall) (e : End) → known_to E D i c s ≡ IsAnswered e
+      → R s (answers_again c e s)
+
 -- and over those of a handler, with K of each message that comes.
 pub record HandlerSteps (E : Database) (D : Deployment) (stamp i : ℕ) (K : SiteState → Actor → Letter → Type 0) (R : SiteState → Turn SiteState → Type 0) : Type 0 where
   pub settles : SayingSteps D i R
-  -- a call runs, and its reply is held
-  pub called : (s : SiteState) → leads D i s ≡ true → nothing_open s.log ≡ true → (c : AskedCall)
-      → R s (becomes (with_entry (holds s (Agent c.host) (reply_to E D i stamp c s)) (Sp c.call stamp c.body)))
+  -- a call waits
+  pub queued : (s : SiteState) (h : ℕ) (l : Letter) (call start client : ℕ) (body : List ℕ) → K s (Agent h) (record l { body = msg.SpCall call start client body })
+      → R s (becomes (with_call s (record { call = call; client = client; host = h; start = start; body = body })))
+  -- a leader works those that wait
+  pub works : (s : SiteState) → R s (works_calls E D i stamp s)
   -- a leader takes a round or an end, and holds the answer
   pub round : (s : SiteState) (h : ℕ) (l : Letter) (m round : ℕ) (body : List ℕ) → K s (Agent h) (record l { body = msg.Frag m round body }) → leads D i s ≡ true
       → let e = Frag m round body in

@@ -29,7 +29,9 @@ pub use Rattle.cluster_model.specs.Log.{open_in}
 pub use Rattle.cluster_model.specs.Recover.{all_shown, count_shown, left_contents, new_base, new_content, new_log, shown_of, starts_anew, stays_stopped}
 pub use Rattle.cluster_model.specs.Runs.{Happening, Reached, RunsTo, has_failed, may_happen}
 pub use Rattle.cluster_model.specs.Site.{at_least, copy_acks, firm_now, floor_now, from_agent, from_site, holds, holds_for, in_new_term, initiator_in, least_of, may_stream, on_start, on_stop, on_stream_start, ordered, own_ack, settles, site_handler, site_runs, site_takes, stream_head, takes_first_ask}
-pub use Rattle.cluster_model.specs.SiteState.{Ask, ForBase, ForJoiner, Joiner, Joining, Reported, Scanning, SiteState, Streamed, is_joiner, leader_in, leads, member_site, new_joiner, new_joining, no_site, site_term, stopped_site}
+pub use Rattle.cluster_model.specs.SiteState.{Ask, Joiner, Joining, Reported, SiteState, Streamed, is_joiner, leader_in, leads, member_site, new_joiner, new_joining, no_site, site_term, stopped_site}
+pub use Rattle.cluster_model.specs.declared.scanning.Scanning.TheVariants.{ForBase, ForJoiner}
+pub use Rattle.cluster_model.specs.declared.scanning.Scanning.{Scanning}
 pub use Rattle.cluster_model.specs.Sync.{after_sync, base_after, base_of, batches, content, joiner_base, joiner_owes, joiner_parts, joiner_written, mark_owed, may_stream_in, may_sync, member_written, owed_batches, owes_in, parts_of_message, parts_of_sync, site_turn, split_at, start_after, stops_so, sync_turn, syncs, written}
 pub use Rattle.cluster_model.specs.Words.{Deployment, admits, all_parts, host_of_slot, is_host, is_member, is_slot_of, is_some_of, part_of_slot, slots, start_of_slot, term_in, term_of}
 pub use Rattle.cluster_model.specs.World.{AuthoritativeLog, Input, Stopped, World, authoritative_after, first_world, new_word, set_at, stamp_of, start_from, stops_with, took, with_site}
@@ -41,8 +43,8 @@ pub use Rattle.cluster_steps.proofs.Lists.{all-append, all-at, all-filter, all-f
 pub use Rattle.cluster_steps.proofs.Prefixes.{prefix-append, prefix-length, prefix-none, prefix-refl, prefix-same, prefix-take, prefix-trans, prefixes-order, take-grown, take-of-prefix, take-prefix, take-short}
 pub use Rattle.cluster_steps.proofs.Sends.{all-order}
 pub use Rattle.cluster_steps.proofs.SiteTurns.{MayTakeAsks, Plain, PlainWaiting, as_entered, as_joiner, enters-walk, handler-known, joins-walk, settles-walk, site_runs-refused, site_runs-taken, site_runs-waits, stays_joiner, takes_asks-cases, turn-walk}
-pub use Rattle.cluster_steps.proofs.SiteWalk.{after_sync-walk, handler-walk}
-pub use Rattle.cluster_steps.proofs.Steps.{HandlerSteps, MayBeTold, SayingSteps, SmallSteps, with_acks, with_entry, with_stream}
+pub use Rattle.cluster_steps.proofs.SiteWalk.{after_sync-walk, handler-walk, works_calls-walk}
+pub use Rattle.cluster_steps.proofs.Steps.{HandlerSteps, MayBeTold, SayingSteps, SmallSteps, with_acks, with_call, with_entry, with_stream}
 pub use Rattle.cluster_steps.specs.Lists.{In, Prefix}
 pub use Rattle.word_laws.proofs.Agreement.{at-good, initiator-named, member-is}
 pub use Rattle.word_laws.proofs.Hearings.{agent-there}

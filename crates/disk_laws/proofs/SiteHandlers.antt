@@ -1,5 +1,8 @@
 -- What a turn of a site leaves of its disk: it goes on over each small step.
-use Rattle.disk_laws.proofs.Names.{cond_both, ◌≡◌, ◌≤◌, Bool, true, false, List, [], ◌∷◌, ◌++◌, refl, sym, subst, ap, ◌∙◌, ◌⊎◌, inl, inr, ◌==◌, arith, cases_lt, eqb-true, map-append, ℕ, ◌+◌, map, max, filter, length, nat_lt, if◌then◌else◌, Option, Some, None, AllByRecursion, Entry, Sp, Frag, Done, StreamHead, Membership, Actor, Agent, Site, Msg, Database, Deployment, Blocks, Letter, Turn, becomes, ◌▸◌, letter_in, only, Arrival, arrival, Taken, Refused, Waits, SiteState, Joining, Reported, Joiner, Ask, leads, site_term, holds, holds_for, initiator_in, own_ack, copy_acks, least_of, at_least, firm_now, floor_now, in_new_term, stream_head, takes_first_ask, on_stream_start, settles, ordered, from_agent, from_site, site_handler, site_runs, after_sync, In, Prefix, all-append, all-filter, all-mono, in-left, in-right, in-map, none-and-some, same-some, prefix-refl, prefix-append, least_of-below, all-order, InertLetter, AlikeJoiners, holds_for-cases, mapped-joiners, with_rest, SmallSteps, SayingSteps, HandlerSteps, MayBeTold, with_acks, with_entry, after_sync-walk, handler-walk, Plain, PlainWaiting, MayTakeAsks, as_entered, as_joiner, takes_asks-cases, enters-walk, handler-known, joins-walk, site_runs-refused, site_runs-taken, site_runs-waits, settles-walk, stays_joiner, turn-walk, HeldOk, HeldFor, answers-all, held-away}
+use Rattle.volt_wire.specs.declared.end.End.{End}
+use Rattle.cluster_model.specs.SiteState.{AskedCall, Held}
+use Rattle.cluster_model.specs.Site.{holds_at, reply_to, sends_firm}
+use Rattle.disk_laws.proofs.Names.{cond_both, ◌≡◌, ◌≤◌, Bool, true, false, List, [], ◌∷◌, ◌++◌, refl, sym, subst, ap, ◌∙◌, ◌⊎◌, inl, inr, ◌==◌, arith, cases_lt, eqb-true, map-append, ℕ, ◌+◌, map, max, filter, length, nat_lt, if◌then◌else◌, Option, Some, None, AllByRecursion, Entry, Sp, Frag, Done, StreamHead, Membership, Actor, Agent, Site, Msg, Database, Deployment, Blocks, Letter, Turn, becomes, ◌▸◌, letter_in, only, Arrival, arrival, Taken, Refused, Waits, SiteState, Joining, Reported, Joiner, Ask, leads, site_term, holds, holds_for, initiator_in, own_ack, copy_acks, least_of, at_least, firm_now, floor_now, in_new_term, stream_head, takes_first_ask, on_stream_start, settles, ordered, from_agent, from_site, site_handler, site_runs, after_sync, In, Prefix, all-append, all-filter, all-mono, in-left, in-right, in-map, none-and-some, same-some, prefix-refl, prefix-append, least_of-below, all-order, InertLetter, AlikeJoiners, holds_for-cases, mapped-joiners, with_rest, SmallSteps, SayingSteps, HandlerSteps, MayBeTold, with_acks, with_call, with_entry, after_sync-walk, handler-walk, works_calls-walk, Plain, PlainWaiting, MayTakeAsks, as_entered, as_joiner, takes_asks-cases, enters-walk, handler-known, joins-walk, site_runs-refused, site_runs-taken, site_runs-waits, settles-walk, stays_joiner, turn-walk, HeldOk, HeldFor, answers-all, held-away}
 use Rattle.volt_wire.specs.declared.message.Msg.TheVariants as msg
 use Rattle.disk_laws.proofs.Handlers.{DiskAt, DiskHandler, same-disk, BeginsStream, Counts, at-first, handler-becomes, handler-then}
 
@@ -12,6 +15,7 @@ with_unseen s u = record (with_rest s u) {
   log = u.log;
   reports = u.reports;
   acks = u.acks;
+  calls = u.calls;
   held = u.held;
   joiners = u.joiners;
   waiting = u.waiting;
@@ -150,10 +154,32 @@ module _ (D : Deployment) (i : ℕ) where
     };
   }
 
+  -- a call that was run already is answered again, at whatever position the answer is held
+  disk-again : (s : SiteState) (c : AskedCall) (e : End) (position : ℕ) → R s (sends_firm (holds_at position s (Agent c.host) (reply_to c e)))
+  disk-again s c e position = record {
+    at = at-rest s (sends_firm (holds_at position s (Agent c.host) (reply_to c e))).state (prefix-refl s.log) (λ old. all-filter HeldOk (λ d. nat_lt s.firm d.position) held (ok old)) (λ x k. k);
+    sends = λ old x. answers-all (BeginsStream D i x s _) (Site x) (λ d fits k. absurd (held-away x d fits k)) s.firm held (ok old);
+  }
+    where
+      new : Held
+      new = record { position = position; to = Agent c.host; letter = reply_to c e }
+
+      held : List Held
+      held = s.held ++ new ∷ []
+
+      ok : AllByRecursion HeldOk s.held → AllByRecursion HeldOk held
+      ok old = all-append HeldOk s.held (new ∷ []) old (tt, tt)
+
   disk-steps : (E : Database) (stamp : ℕ) → HandlerSteps E D stamp i (λ _ from l. Plain from l) R
   disk-steps E stamp = record {
     settles = disk-settles;
-    called = λ s authoritative clear c. disk-holds s c.host _ (Sp c.call stamp c.body) tt;
+    queued = λ s h l call start client body k. disk-same s (with_call s (record { call = call; client = client; host = h; start = start; body = body })) refl refl refl;
+    works = works_calls-walk E D stamp i R (record {
+      moves = disk-settles.moves;
+      cleared = λ s. disk-same s (record s { calls = [] }) refl refl refl;
+      called = λ s authoritative clear c is. disk-holds s c.host _ (Sp c.call c.client stamp c.body) tt;
+      answered = λ s authoritative clear c e is. disk-again s c e _;
+    });
     round = λ s h l m round body k authoritative. disk-answers s _ (Frag m round body) (λ first. tt);
     ended = λ s h l m o k authoritative. disk-answers s _ (Done m o) (λ first. tt);
     word = λ s h l w k. k;

@@ -2,7 +2,7 @@
 //! reached world, so of these. Their premises are met here, so none of them speaks of nothing.
 #![tactic(auto)]
 
-ghost use Rattle.std.specs.Prelude.{◌≡◌, ◌≤◌, ◌⊎◌, ℕ, length, take, [], ◌∷◌};
+ghost use Rattle.std.specs.Prelude.{◌≡◌, ◌≤◌, ◌⊎◌, ℕ, length, take, [], ◌∷◌, Some, option_map};
 ghost use Rattle.volt_base.specs.declared.entry.Entry.TheVariants.{Sp};
 ghost use Rattle.volt_wire.specs.Word.{Membership};
 ghost use Rattle.volt_wire.specs.declared.actor.Actor.{Actor};
@@ -10,24 +10,31 @@ ghost use Rattle.volt_wire.specs.declared.actor.Actor.TheVariants.{Agent};
 ghost use Rattle.volt_wire.specs.declared.end.End.TheVariants as end;
 ghost use Rattle.volt_wire.specs.declared.event.Event.TheVariants as event;
 ghost use Rattle.volt_wire.specs.declared.message.Msg.TheVariants as msg;
+ghost use Rattle.cluster_model.specs.Disk.{recovered};
 ghost use Rattle.cluster_model.specs.Laws.{EndsWith, left_by};
 ghost use Rattle.cluster_model.specs.Letters.{open_letter};
+ghost use Rattle.cluster_model.specs.Recover.{shown_of};
 ghost use Rattle.cluster_model.specs.Runs.{IsRun};
+ghost use Rattle.cluster_model.specs.Scenarios.AskedAgainBehindRecovery as behind_recovery;
 ghost use Rattle.cluster_model.specs.Scenarios.InitiatorLostBehindDone as behind_done;
+ghost use Rattle.cluster_model.specs.Scenarios.LeaderLostBehindPut as behind_put;
 ghost use Rattle.cluster_model.specs.Scenarios.LostAndRejoined as rejoined;
 ghost use Rattle.cluster_model.specs.Toy.{toy, gives, put};
-ghost use Rattle.cluster_model.specs.Words.{term_of, part_of_slot};
+ghost use Rattle.cluster_model.specs.Words.{members, term_of, part_of_slot};
 ghost use Rattle.cluster_steps.specs.Lists.{Prefix};
-ghost use Rattle.word_laws.specs.Chain.{HasDecided, HasWord, InEpoch, OneStartPerHost};
+ghost use Rattle.word_laws.specs.Chain.{HasDecided, HasWord, InEpoch, KeepsInitiator, KeepsLeaders, MembersRise, OneStartPerHost};
 ghost use Rattle.word_laws.specs.Histories.{Comparable};
 ghost use Rattle.word_laws.specs.Lost.{LostAreStopped};
 ghost use Rattle.log_laws.specs.Copies.{Follows, KeepsFirm, IsInAuthoritative, HasLogs, log_of};
 ghost use Rattle.disk_laws.specs.Survival.{Survives, GoesOnWithFirm};
+ghost use Rattle.call_laws.specs.Submissions.{IsGreatestOf, WasSubmitted};
 ghost use Rattle.reply_laws.specs.UnderWay.{CallStandsFirm, RoundStandsFirm, EndStandsFirm};
+ghost use Rattle.transaction_laws.specs.Answers.{AnswerIsFirm, CallIsFirm, EndIsFirm};
 ghost use Rattle.transaction_laws.specs.Machine.{RiseWithin, WellFormed, first_stage, points};
-ghost use Rattle.transaction_laws.specs.Worlds.{GoesOnClosed, GoesOnAlike, IsInitiator, StandsOrIsOpen, EndsAlike};
-ghost use Rattle.law_instances.specs.Instances.{answered, asked, ended, first_shown, heeding, heedless, joins, loaded, stopped};
+ghost use Rattle.transaction_laws.specs.Worlds.{GoesOnClosed, GoesOnAlike, IsInitiator, StandsOrIsOpen, EndsAlike, AppliesOnce, ShareEnds};
+ghost use Rattle.law_instances.specs.Instances.{answered, asked, asks, asks_again, ended, first_shown, given_again, heeding, heedless, joins, loaded, moved, moved_told, moves, requested, stopped, told, admits, admitted};
 
+use call_laws::{a_pending_call_is_its_clients_greatest, requests_are_as_they_were_submitted};
 use cluster_model::laws::{AnyDatabase, runs_lead_on};
 use cluster_model::scenarios;
 use disk_laws::{firm_entries_survive, no_choice_lacks_firm_entries};
@@ -40,13 +47,17 @@ use reply_laws::{
     answers_of_rounds_are_of_firm_entries, ends_are_of_firm_entries, replies_are_of_firm_entries,
 };
 use transaction_laws::{
-    a_call_ends_in_one_way, an_applied_call_stands_or_is_open, logs_are_well_formed,
-    one_initiator_runs, points_never_fall, recoveries_apply_a_call_in_all_partitions,
-    recoveries_go_on_with_closed_logs,
+    a_call_ends_in_one_way, a_call_runs_once, an_applied_call_stands_or_is_open,
+    answers_of_initiators_are_of_firm_entries, answers_to_clients_are_of_firm_entries,
+    logs_are_well_formed, no_call_stands_twice, one_initiator_runs, points_never_fall,
+    recoveries_apply_a_call_in_all_partitions, recoveries_apply_no_call_twice,
+    recoveries_go_on_with_closed_logs, recoveries_run_a_call_once,
 };
 use word_laws::{
     a_stopped_agent_has_said_closed_last, a_term_names_one_decided_word,
-    decided_words_form_a_chain, lost_starts_are_stopped, one_start_per_host, words_have_a_history,
+    decided_words_form_a_chain, initiators_and_leaders_change_only_by_loss,
+    lost_starts_are_stopped, members_rise_as_they_were_admitted, one_start_per_host,
+    words_have_a_history,
 };
 
 /// The database of accounts over which scenarios are worked out. No value of it is made.
@@ -131,6 +142,25 @@ pub fn transactions_behind_a_loss()
     one_initiator_runs::<SmallDatabase>();
 }
 
+/// Behind the loss of an initiator each call stands once in the log of a site, and in those of two
+/// partitions by one end alone. So it is in the logs with which a recovery would go on.
+pub fn calls_behind_a_loss()
+    ensures once { AppliesOnce behind_done.input behind_done.last (part_of_slot behind_done.last.deployment 4)
+        (log_of behind_done.last 4) }
+    ensures shared { ShareEnds (behind_done.last.authoritative 1).log (behind_done.last.authoritative 2).log }
+    ensures recovered { AppliesOnce behind_done.input behind_done.last 1
+        (recovered toy behind_done.last.deployment (shown_of behind_done.last first_shown) 1) }
+    ensures recovered_shared { ShareEnds
+        (recovered toy behind_done.last.deployment (shown_of behind_done.last first_shown) 1)
+        (recovered toy behind_done.last.deployment (shown_of behind_done.last first_shown) 2) }
+{
+    scenarios::initiator_lost_behind_done();
+    no_call_stands_twice::<SmallDatabase>();
+    a_call_runs_once::<SmallDatabase>();
+    recoveries_apply_no_call_twice::<SmallDatabase>();
+    recoveries_run_a_call_once::<SmallDatabase>();
+}
+
 /// When the leader of partition 1 has counted the first call firm, its reply is under way to the agent:
 /// the call stands among the firm entries, and the reply is what the database answers to it there.
 pub fn reply_under_way()
@@ -138,6 +168,54 @@ pub fn reply_under_way()
 {
     scenarios::initiator_lost_behind_done();
     runs_lead_on::<SmallDatabase>();
+    replies_are_of_firm_entries::<SmallDatabase>();
+}
+
+/// The agent has that reply, and tells it to its client: the call is one of the client's on partition 1,
+/// where it stands so.
+pub fn answer_to_a_client()
+    ensures { AnswerIsFirm toy behind_done.input told 2 1 (end.Ok (gives 1)) }
+{
+    scenarios::initiator_lost_behind_done();
+    runs_lead_on::<SmallDatabase>();
+    answers_to_clients_are_of_firm_entries::<SmallDatabase>();
+}
+
+/// An initiator has heard that the end of a call on all partitions stands for good, and its reply is under way
+/// to the agent that asked: the end stands among the firm entries, with that reply. Then the agent tells
+/// it to its client.
+pub fn reply_of_an_initiator()
+    ensures run { IsRun toy moves behind_recovery.start }
+    ensures ends { EndIsFirm moved 3 (end.Ok (gives 6)) }
+    ensures applied { CallIsFirm toy moved 0 3 (end.Ok (gives 6)) }
+    ensures told { AnswerIsFirm toy behind_recovery.input moved_told 2 3 (end.Ok (gives 6)) }
+{
+    scenarios::asked_again_behind_recovery();
+    runs_lead_on::<SmallDatabase>();
+    answers_of_initiators_are_of_firm_entries::<SmallDatabase>();
+    answers_to_clients_are_of_firm_entries::<SmallDatabase>();
+}
+
+/// A client has submitted its call, and its agent has asked the leader: the request is of that call, on
+/// its partition, and no greater one was submitted.
+pub fn request_under_way()
+    ensures run { IsRun toy asks behind_put.start }
+    ensures submitted { WasSubmitted behind_put.input requested 1 2 (Some 0) (put 1 10) }
+    ensures greatest { IsGreatestOf requested 2 1 }
+{
+    scenarios::leader_lost_behind_put();
+    requests_are_as_they_were_submitted::<SmallDatabase>();
+    a_pending_call_is_its_clients_greatest::<SmallDatabase>();
+}
+
+/// A leader is lost when its call has reached the other copy. The next leader is asked again, and once
+/// what it has is firm its reply is under way: the call stands among the firm entries, and the reply is
+/// what the database answers to it there.
+pub fn reply_given_again()
+    ensures run { IsRun toy asks_again behind_put.start }
+    ensures stands { CallStandsFirm toy given_again 1 1 (end.Ok (gives 1)) }
+{
+    scenarios::leader_lost_behind_put();
     replies_are_of_firm_entries::<SmallDatabase>();
 }
 
@@ -156,10 +234,27 @@ pub fn next_leader()
 pub fn loaded_joiner()
     ensures run { IsRun toy joins rejoined.start }
     ensures follows { Follows loaded 0 1 }
-    ensures log { log_of loaded 0 ≡ Sp 1 4 (put 1 10) ∷ [] }
+    ensures log { log_of loaded 0 ≡ Sp 1 2 4 (put 1 10) ∷ [] }
 {
     scenarios::lost_and_rejoined();
     a_loaded_joiner_follows::<SmallDatabase>();
+}
+
+/// The host that came back is admitted: it stands behind the one that stayed. Words that were decided
+/// at the two times agree on the order of their members, on the initiator and on the leaders.
+pub fn admitted_host()
+    ensures run { IsRun toy admits loaded }
+    ensures members { option_map members (admitted.agents 1).decided ≡ Some ((1, 2) ∷ (0, 3) ∷ []) }
+    ensures rises { (m n : Membership) → HasDecided loaded m → HasDecided admitted n
+        → MembersRise m n × MembersRise n m }
+    ensures initiator { (m n : Membership) → HasDecided loaded m → HasDecided admitted n
+        → KeepsInitiator m n × KeepsInitiator n m }
+    ensures leaders { (m n : Membership) → HasDecided loaded m → HasDecided admitted n
+        → KeepsLeaders admitted.deployment m n × KeepsLeaders admitted.deployment n m }
+{
+    scenarios::lost_and_rejoined();
+    members_rise_as_they_were_admitted::<SmallDatabase>();
+    initiators_and_leaders_change_only_by_loss::<SmallDatabase>();
 }
 
 /// When the first round of the call on all partitions is firm in partition 1, its part is under way to the

@@ -27,14 +27,16 @@ pub use Rattle.volt_wire.specs.declared.message.Msg.{Msg}
 pub use Rattle.cluster_model.proofs.Runs.{in-epoch-kept, reached-kept}
 pub use Rattle.cluster_model.proofs.Starts.{takes-next}
 pub use Rattle.cluster_model.specs.Agent.{agent_handler, agent_runs, agent_takes, agent_turn, decides_word, handler_and_word, is_other_word, is_word, may_decide, on_closed, on_decided, on_word, says, start_taken, takes_word, unless_stopped, word_to}
-pub use Rattle.cluster_model.specs.AgentState.{Admission, AgentState, Job_, Queued, initiates, new_agent, stops, stops_others, stops_with_host}
+pub use Rattle.cluster_model.specs.AgentState.{AgentState, initiates, new_agent, stops, stops_others, stops_with_host}
+pub use Rattle.cluster_model.specs.declared.initiating.Queued.TheVariants.{Admission, ToRun}
+pub use Rattle.cluster_model.specs.declared.initiating.Queued.{Queued}
 pub use Rattle.cluster_model.specs.Client.{ClientState, Due, submit_to, submits, target}
 pub use Rattle.cluster_model.specs.Director.{DirectorState, asks_recovery, does, does_next, stops_host}
 pub use Rattle.cluster_model.specs.Disk.{Shown, after_failure, after_parts}
 pub use Rattle.cluster_model.specs.Engine.{Database}
 pub use Rattle.cluster_model.specs.Environment.{DiskFails, DisksShow, Environment, NoFault, NoMemory}
 pub use Rattle.cluster_model.specs.Events.{allows, can, delivered, happens, is_actor, is_some_letter, may_do, recovered_with, step}
-pub use Rattle.cluster_model.specs.Initiator.{end_of_reply}
+pub use Rattle.cluster_model.specs.Replies.{end_of_reply}
 pub use Rattle.cluster_model.specs.Laws.{RiseFrom, start_in_letter, starts_in}
 pub use Rattle.cluster_model.specs.Letters.{Arrival, Blocks, Letter, Refused, Sends, Taken, Turn, Waiting, Waits, above_term, arrival, becomes, in_term, letter_in, letter_to, no_sends, of_term, only, open_letter, same, sending, ◌▸◌}
 pub use Rattle.cluster_model.specs.Log.{answer_behind, last_done, nothing_open, open_in}
@@ -42,7 +44,9 @@ pub use Rattle.cluster_model.specs.Recover.{is_of_host, left_contents, new_base,
 pub use Rattle.cluster_model.specs.Runs.{Happening, Reached, RunsInEpoch, has_failed, may_happen, renews, renews_at, renews_by}
 pub use Rattle.cluster_model.specs.Scanner.{Scan, ScannerState, scan_block, scan_turn, scanner_turn, scans}
 pub use Rattle.cluster_model.specs.Site.{acked_in, answers_held, appends_all, as_member, asks_to_join, can_take, counts, ends_streams, finishes_load, firm_now, floor_now, from_agent, from_director, from_scanner, from_site, has_all_on_disk, holds, holds_for, in_new_term, initiator_in, is_first_term, is_lost_in, is_sent, lacks, leads_with, longest, looked, may_finish, may_stream, noted, of_order, on_ack, on_chunk, on_done, on_frag, on_join_ask, on_look, on_power, on_put, on_repair, on_report, on_scan_end, on_sp_call, on_stop, on_stream_end, on_stream_start, on_task, on_view, order_of, ordered, own_ack, put_to, repair_to, repairs, reports_to, runs_call, runs_calls, sends_firm, settles, shows, site_handler, site_runs, site_takes, stream_ends_to, stream_head, takes_asks, takes_first_ask, takes_joiner, tasks_to, tells_initiator, with_count, with_joining, with_position, without_count, without_first, works_calls}
-pub use Rattle.cluster_model.specs.SiteState.{Ask, AskedCall, ForBase, ForJoiner, Held, Joiner, Joining, Reported, Scanning, SiteState, Streamed, copies_in, is_joiner, is_leader, is_member_site, leader_in, leads, member_site, new_joiner, new_joining, no_site, other_copies, site_term, start_in_view, stopped_site}
+pub use Rattle.cluster_model.specs.SiteState.{Ask, AskedCall, Held, Joiner, Joining, Reported, SiteState, Streamed, copies_in, is_joiner, is_leader, is_member_site, leader_in, leads, member_site, new_joiner, new_joining, no_site, other_copies, site_term, start_in_view, stopped_site}
+pub use Rattle.cluster_model.specs.declared.scanning.Scanning.TheVariants.{ForBase, ForJoiner}
+pub use Rattle.cluster_model.specs.declared.scanning.Scanning.{Scanning}
 pub use Rattle.cluster_model.specs.Sync.{acknowledges, after_sync, joiner_written, may_sync, member_written, owes_in, parts_of_message, parts_of_sync, says_loaded, site_turn, stops_so, sync_turn, syncs, written}
 pub use Rattle.cluster_model.specs.Words.{Deployment, admits, copies, first_of, host_of_slot, is_down, is_host, is_in, is_member, is_slot_of, is_some_of, leader, members, part_of_slot, parts, slots, slots_of_host, start_of, start_of_slot, term_in, term_of, union, with_lost, with_number}
 pub use Rattle.cluster_model.specs.World.{AuthoritativeLog, Input, Stopped, World, authoritative_after, first_initiating, first_world, greatest_done, member_agent, new_word, rest, sent, set_at, stamp_of, start_from, stop_noted, stops_with, took, with_client, with_director, with_scanner, with_site}
@@ -63,6 +67,7 @@ pub use Rattle.word_laws.proofs.Calm.{Calm, SaysNoWord, asked_by, handler-calm, 
 pub use Rattle.word_laws.proofs.Draws.{director-inert-holds, draws-holds}
 pub use Rattle.word_laws.proofs.Epochs.{boot-holds, epoch_state, first-there, new_history, new_owner, recovery-holds, start_of-first}
 pub use Rattle.word_laws.proofs.Hearings.{WordsTurn, after-handler, agent-there, concludes-none, decides-handler, handler-grows, handler-later, handler-plain, none-handler, others-after, stay-handler, then-assoc, then-inert}
+pub use Rattle.word_laws.proofs.Leaders.{in-standing, standing-in}
 pub use Rattle.word_laws.proofs.Members.{first-in, is_member-start, is_some_of-is, start-is_member}
 pub use Rattle.word_laws.proofs.Moves.{Grows}
 pub use Rattle.word_laws.proofs.Rejoins.{start-grows, start-holds, start-stops-holds, with_began}

@@ -10,7 +10,9 @@ use Rattle.volt_wire.specs.declared.message.Msg.{Msg}
 use Rattle.volt_wire.specs.declared.message.Msg.TheVariants as msg
 use Rattle.cluster_model.specs.Words.{Deployment, slots, part_of_slot, host_of_slot, is_slot_of, is_in, term_of, term_in, start_of_slot, leader, is_some_of}
 use Rattle.cluster_model.specs.Letters.{Blocks, same, Letter, Waiting}
-use Rattle.cluster_model.specs.AgentState.{AgentState, Queued, Job_, Admission}
+use Rattle.cluster_model.specs.AgentState.{AgentState}
+use Rattle.cluster_model.specs.declared.initiating.Queued.{Queued}
+use Rattle.cluster_model.specs.declared.initiating.Queued.TheVariants.{ToRun, Admission}
 use Rattle.cluster_model.specs.SiteState.{SiteState, Streamed, Joining, Held, Joiner, Ask, is_leader, site_term}
 use Rattle.cluster_model.specs.Laws.{RiseFrom, start_in_letter, starts_in}
 use Rattle.word_laws.specs.Histories as word
@@ -587,7 +589,7 @@ AskedOk S (Site c) l = ToldOk S c l
 AskedOk S from l = Unit {0}
 
 abbrev pub QueuedLoadedOk : LogState → Queued → Type 0
-QueuedLoadedOk S (Job_ job) = Unit {0}
+QueuedLoadedOk S (ToRun job) = Unit {0}
 QueuedLoadedOk S (Admission a h term) = AllLoaded S h a
 
 -- Who asks to be admitted has loaded all, and has it on disk.

@@ -41,6 +41,6 @@ answers None call reply = nothing
 answers (Some n) call reply = only (Client n) (msg.Answer call reply)
 
 abbrev pub agent_sends : AgentState → Actor → Msg → Sends
-agent_sends a (Client n) (msg.Call call start (Some part) body) = if start == a.start then only (Site part) (msg.SpCall call start body) else nothing
+agent_sends a (Client n) (msg.Call call start (Some part) body) = if start == a.start then only (Site part) (msg.SpCall call start n body) else nothing
 agent_sends a (Site i) (msg.Reply call start reply) = answers (client_of call a.pending) call reply
 agent_sends a from m = nothing

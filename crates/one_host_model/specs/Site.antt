@@ -30,10 +30,10 @@ tables S i s = replay S (S.opening i) s.log
 -- SpCall from an agent: the leader appends the call with this stamp as its point, and applies it. The
 -- reply is what the entry answers at its place in the log, and waits.
 abbrev pub site_after : (S : Semantics) → ℕ → ℕ → SiteState → Actor → Msg → SiteState
-site_after S stamp i s (Agent h) (msg.SpCall call start body) =
+site_after S stamp i s (Agent h) (msg.SpCall call start client body) =
     record s {
-      log = s.log ++ Sp call stamp body ∷ [];
-      waiting = s.waiting ++ record { host = h; start = start; call = call; reply = S.answer (tables S i s) (Sp call stamp body) } ∷ [];
+      log = s.log ++ Sp call client stamp body ∷ [];
+      waiting = s.waiting ++ record { host = h; start = start; call = call; reply = S.answer (tables S i s) (Sp call client stamp body) } ∷ [];
     }
 site_after S stamp i s from m = s
 

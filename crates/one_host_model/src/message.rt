@@ -1,4 +1,4 @@
-use volt_base::{Bytes, CallNo, PartNo, Start};
+use volt_base::{Bytes, CallNo, ClientNo, PartNo, Start};
 
 /// A message from one actor to another.
 #[derive(Debug, Drop)]
@@ -12,10 +12,11 @@ pub enum Msg {
     },
     /// From a client to the director: a call was submitted.
     Told,
-    /// From an agent of this start to the leader of a partition: run this call.
+    /// From an agent of this start to the leader of a partition: run this call of a client.
     SpCall {
         call: CallNo,
         start: Start,
+        client: ClientNo,
         body: Bytes,
     },
     /// From a site to the agent of this start that asked: what the call answered.

@@ -4,10 +4,12 @@
 
 mod buckets;
 mod copies;
+mod deployment;
 mod laws;
 mod layout;
 
 pub use buckets::partition_of;
+pub use deployment::Deployment;
 pub use laws::{copies_are_in_order, copies_have_hosts_of_their_own, slots_have_copies};
 pub use layout::{BadLayout, Layout};
 

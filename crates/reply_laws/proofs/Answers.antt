@@ -1,28 +1,36 @@
 -- What a turn of a site leaves of the answers that it holds, and what it sends of them: it goes on over each small step.
-use Rattle.std.proofs.Common.{◌≡◌, ◌<◌, ◌≤◌, Bool, true, false, List, [], ◌∷◌, ◌++◌, refl, sym, subst, ap, ◌∙◌, arith}
-use Rattle.std.proofs.lemmas.Bool.{and_parts}
+use Rattle.std.proofs.Common.{◌≡◌, ◌<◌, ◌≤◌, Bool, true, false, List, [], ◌∷◌, ◌++◌, append_assoc, length-append, refl, sym, subst, ap, ◌∙◌, ◌==◌, arith}
+use Rattle.std.proofs.lemmas.Bool.{and_parts, cond_both, eqb-true}
 use Rattle.std.proofs.lemmas.Bool.Decides.{nat_tests}
-use Rattle.std.specs.Prelude.{ℕ, ◌+◌, ◌&&◌, filter, length, nat_lt, nat_le, Some, None}
+use Rattle.std.specs.Prelude.{ℕ, ◌+◌, ◌&&◌, filter, length, nat_lt, nat_le, Option, Some, None}
 use Rattle.std.specs.List.{AllByRecursion}
 use Rattle.volt_base.specs.declared.entry.Entry.{Entry}
 use Rattle.volt_base.specs.declared.entry.Entry.TheVariants.{Sp, Frag, Done}
+use Rattle.volt_base.specs.declared.entry.LastReply.{LastReply}
 use Rattle.volt_wire.specs.declared.actor.Actor.TheVariants.{Agent}
+use Rattle.volt_wire.specs.declared.end.End.{End}
 use Rattle.volt_wire.specs.declared.message.Msg.{Msg}
 use Rattle.volt_wire.specs.declared.message.Msg.TheVariants as msg
 use Rattle.cluster_model.specs.Engine.{Database}
+use Rattle.cluster_model.specs.Log.{applied_by}
+use Rattle.cluster_model.specs.Replies.{end_of_reply, known_by, last_replies, last_reply_to}
+use Rattle.cluster_model.specs.declared.known.Known.{Known}
+use Rattle.cluster_model.specs.declared.known.Known.TheVariants.{IsAnswered}
 use Rattle.cluster_model.specs.Words.{Deployment, part_of_slot}
 use Rattle.cluster_model.specs.Letters.{Blocks, same, Letter, Turn, becomes, letter_in}
-use Rattle.cluster_model.specs.SiteState.{SiteState, Joining, Joiner, Held, is_leader, leads, site_term}
-use Rattle.cluster_model.specs.Site.{holds, holds_for, initiator_in, firm_now, answers_held}
+use Rattle.cluster_model.specs.SiteState.{AskedCall, SiteState, Joining, Held, is_leader, leads, site_term}
+use Rattle.cluster_model.specs.Site.{answers_again, answers_held, firm_now, floor_now, holds, holds_at, holds_for, initiator_in, known_to, reply_to, sends_firm}
 use Rattle.cluster_steps.specs.Lists.{Prefix}
 use Rattle.cluster_steps.proofs.Lists.{all-append, all-at, all-filter, all-from, all-mono, in-filter, in-map-from, none-and-some}
 use Rattle.cluster_steps.proofs.Leaders.{leader-view, leads-parts}
 use Rattle.cluster_steps.proofs.Least.{firm_now-above}
-use Rattle.cluster_steps.proofs.Prefixes.{prefix-append, prefix-refl, prefix-trans}
+use Rattle.cluster_steps.proofs.Prefixes.{prefix-append, prefix-length, prefix-refl, prefix-trans}
 use Rattle.cluster_steps.proofs.Frames.{InertLetter, holds_for-cases}
+use Rattle.cluster_steps.proofs.SiteWalk.{works_calls-walk}
 use Rattle.cluster_steps.proofs.Steps.{SmallSteps, SayingSteps, HandlerSteps, with_acks, with_entry, with_repair}
 use Rattle.cluster_steps.proofs.SiteTurns.{Plain}
-use Rattle.reply_laws.specs.Answers.{Answered, Claim, Claims, ClaimsFit, HeldAnswer, HoldsAnswers, OfTerm, Stands, StandsAt, is_answer}
+use Rattle.reply_laws.specs.Answers.{Answered, Claim, Claims, ClaimsFit, HeldAnswer, HoldsAnswers, OfTerm, Stands, StandsAt, StandsBy, is_answer}
+use Rattle.reply_laws.proofs.LastReplies.{last-reply-at}
 
 -- a joiner without a stream has no entries
 abbrev pub NoLog : SiteState → Type 0
@@ -38,11 +46,23 @@ stands-at-on : (P : Claim) (log later : List Entry) → Prefix log later → (po
 unfolding stands-on
 stands-at-on P log later f position k = record { here = stands-on P log later f k.here; at = k.at }
 
+stands-by-on : (P : Claim) (log later : List Entry) → Prefix log later → (position : ℕ) → StandsBy P log position → StandsBy P later position
+stands-by-on P log later f position k = record { at = k.at; stands = stands-at-on P log later f k.at k.stands; waits = k.waits }
+
 -- so does the entry of each answer that is held
 pub all-held-on : (T : Claims) (log later : List Entry) (term : ℕ) → Prefix log later → (ds : List Held)
     → AllByRecursion (HeldAnswer T log term) ds → AllByRecursion (HeldAnswer T later term) ds
 all-held-on T log later term f = all-mono (HeldAnswer T log term) (HeldAnswer T later term)
-    (λ d k. record { stands = λ a. stands-at-on (T d.letter.body) log later f d.position (k.stands a); term_is = k.term_is })
+    (λ d k. record { stands = λ a. stands-by-on (T d.letter.body) log later f d.position (k.stands a); term_is = k.term_is })
+
+-- by the last reply to its client a call is answered
+answered-by : (call : ℕ) (o : Option LastReply) (e : End) → known_by call o ≡ IsAnswered e → (r : LastReply) × (o ≡ Some r) × (r.call ≡ call) × (e ≡ end_of_reply r.reply)
+answered-by call None e is = absurd (cc)
+answered-by call (Some r) e is = cond_both (nat_lt r.call call) _ _ Gives (λ _ k. absurd (cc)) (λ _. cond_both (r.call == call) _ _ Gives
+    (λ same k. (r, refl, eqb-true r.call call same, cc)) (λ _ k. absurd (cc))) is
+  where
+    Gives : Known → Type 0
+    Gives k = k ≡ IsAnswered e → (x : LastReply) × (Some r ≡ Some x) × (x.call ≡ call) × (e ≡ end_of_reply x.reply)
 
 -- what says nothing is no answer
 pub inert-answer : (term : ℕ) (l : Letter) → InertLetter l → (is_answer l.body ≡ false) × OfTerm term l
@@ -51,7 +71,7 @@ inert-answer term l = elim l.body as (λ m. InertLetter (record l { body = m }) 
   | msg.Reply call start end ↦ λ k. absurd k
   | msg.FragDone m round partial ↦ λ k. absurd k
   | msg.Finished m ↦ λ k. absurd k
-  | msg.MpState m is_open outcome ↦ λ k. absurd k
+  | msg.MpState m is_open outcome replies ↦ λ k. absurd k
   | m ↦ λ k. (refl, tt)
 ]
 
@@ -137,24 +157,25 @@ module _ (D : Deployment) (i : ℕ) (T : Claims) where
   }
 
   -- the answers to what is firm by now
-  counted-answers : (s : SiteState) → leads D i s ≡ true → (acks : List (ℕ × ℕ)) (joiners : List Joiner)
-      → let m = with_acks s acks joiners in let n = firm_now D i m in
-      0 < s.start → HoldsAnswers T s → (h : ℕ) → AllByRecursion (SentFirm D i T (record m { firm = n; held = filter (λ d. nat_lt n d.position) s.held })) (answers_held n s.held (Agent h))
-  counted-answers s authoritative acks joiners up x h = all-from (SentFirm D i T u) (answers_held n s.held (Agent h)) (λ l k.
-      let r = in-map-from (λ d. d.letter) l (filter (λ d. nat_le d.position n && same d.to (Agent h)) s.held) k in
-      let q = in-filter (λ d. nat_le d.position n && same d.to (Agent h)) r.0 s.held r.1 in
-      let low = (and_parts (nat_le r.0.position n) (same r.0.to (Agent h)) q.1).0 in
+  firm-answers : (s : SiteState) → leads D i s ≡ true → 0 < s.start → HoldsAnswers T s → (h : ℕ) → AllByRecursion (SentFirm D i T (sends_firm s).state) ((sends_firm s).sends (Agent h))
+  firm-answers s authoritative up x h = all-from (SentFirm D i T u) (answers_held s.firm s.held (Agent h)) (λ l k.
+      let r = in-map-from (λ d. d.letter) l (filter (λ d. nat_le d.position s.firm && same d.to (Agent h)) s.held) k in
+      let q = in-filter (λ d. nat_le d.position s.firm && same d.to (Agent h)) r.0 s.held r.1 in
+      let low = (and_parts (nat_le r.0.position s.firm) (same r.0.to (Agent h)) q.1).0 in
       let y = all-at (HeldAnswer T s.log (site_term s)) s.held x r.0 q.0 in
       subst (SentFirm D i T u) r.2 (record {
-        answered = λ a. record { position = r.0.position; stands = y.stands a; firm = grind (arith, nat_tests, low); leads = authoritative; runs = up };
+        answered = λ a. let z = y.stands a in record {
+          position = z.at;
+          stands = z.stands;
+          firm = let b = z.waits in grind (arith, nat_tests, low, b);
+          leads = authoritative;
+          runs = up;
+        };
         term_is = y.term_is;
       }))
     where
-      n : ℕ
-      n = firm_now D i (with_acks s acks joiners)
-
       u : SiteState
-      u = record (with_acks s acks joiners) { firm = n; held = filter (λ d. nat_lt n d.position) s.held }
+      u = (sends_firm s).state
 
   pub answers-settles : SayingSteps D i (Answers D i T)
   answers-settles = record {
@@ -169,8 +190,7 @@ module _ (D : Deployment) (i : ℕ) (T : Claims) where
         firm = firm_now-above D i (with_acks s acks joiners);
         held = λ x. all-filter (HeldAnswer T s.log (site_term s)) (λ d. nat_lt (firm_now D i (with_acks s acks joiners)) d.position) s.held x;
       };
-      sends = λ up x h. all-mono (SentFirm D i T _) (SentFirm D i T _) (λ l k. record { answered = λ a. let y = k.answered a in record { position = y.position; stands = y.stands; firm = y.firm; leads = y.leads; runs = y.runs }; term_is = k.term_is })
-          _ (counted-answers s authoritative acks joiners up x h);
+      sends = λ up x h. firm-answers (record (with_acks s acks joiners) { firm = firm_now D i (with_acks s acks joiners); floor = floor_now D i (with_acks s acks joiners) }) authoritative up x h;
     };
   }
 
@@ -184,7 +204,7 @@ module _ (D : Deployment) (i : ℕ) (T : Claims) where
     leads = λ k. k;
     firm = omega arith;
     held = λ old. all-append (HeldAnswer T log (site_term s)) s.held (d ∷ []) (all-held-on T s.log log (site_term s) more s.held old)
-        (record { stands = λ a. record { here = record { prefix = s.log; entry = e; stands = prefix-refl log; claim = claim a }; at = refl }; term_is = term_is }, tt);
+        (record { stands = λ a. record { at = length s.log + 1; stands = here a; waits = omega arith }; term_is = term_is }, tt);
   })
     where
       log : List Entry
@@ -195,6 +215,9 @@ module _ (D : Deployment) (i : ℕ) (T : Claims) where
 
       d : Held
       d = record { position = length s.log + 1; to = Agent h; letter = l }
+
+      here : is_answer l.body ≡ true → StandsAt (T l.body) log (length s.log + 1)
+      here a = record { here = record { prefix = s.log; entry = e; stands = prefix-refl log; claim = claim a }; at = refl }
 
   more-answers : (s : SiteState) (es : List Entry) → Answers D i T s (becomes (record s { log = s.log ++ es }))
   more-answers s es = answers-state s _ (at-log s _ refl refl (prefix-append s.log es) (λ e. e) refl refl)
@@ -210,10 +233,66 @@ module _ (D : Deployment) (i : ℕ) (T : Claims) where
   repaired-answers s u start term log same repaired firm held =
       answers-state s u (at-log s u start term log (λ e. ap (λ b. b && u.repaired) (same ∙ (leads-parts D i s e).0) ∙ repaired) firm held)
 
+  -- the last reply to a client stands in the log, as the reply to the call that is asked again
+  again-stands : (E : Database) → ClaimsFit E (part_of_slot D i) T → (s : SiteState) (c : AskedCall) (e : End) → known_to E D i c s ≡ IsAnswered e
+      → StandsBy (T (msg.Reply c.call c.start e)) s.log (length s.log)
+  again-stands E fits s c e is =
+      let p = part_of_slot D i in
+      let (r, last, same, answer) = answered-by c.call (last_reply_to c.client (last_replies E p s.log)) e is in
+      let k = last-reply-at E p c.client s.log r last in
+      let xs = k.before ++ k.entry ∷ [] in
+      let stands : Prefix xs s.log = (k.behind, k.splits ∙ sym (append_assoc k.before (k.entry ∷ []) k.behind)) in
+      let fit = prefix-length xs s.log stands in
+      let len = length-append k.before (k.entry ∷ []) in
+      record {
+        at = length k.before + 1;
+        stands = record {
+          here = record {
+            prefix = k.before;
+            entry = k.entry;
+            stands = stands;
+            claim = subst (λ end. T (msg.Reply c.call c.start end) k.before k.entry) (sym (answer ∙ ap end_of_reply k.reply_is))
+                (fits.call k.before k.entry c.call c.start k.point (subst (λ n. applied_by k.entry ≡ record { call = n; point = k.point } ∷ []) same k.applies));
+          };
+          at = refl;
+        };
+        waits = omega (arith, fit, len);
+      }
+
+  -- a call that was run already is answered again
+  again-answers : (E : Database) → ClaimsFit E (part_of_slot D i) T → (s : SiteState) → leads D i s ≡ true → (c : AskedCall) (e : End) → known_to E D i c s ≡ IsAnswered e
+      → Answers D i T s (answers_again c e s)
+  again-answers E fits s authoritative c e is = record {
+    at = record {
+      start = refl;
+      term = refl;
+      log = prefix-refl s.log;
+      leads = λ k. k;
+      firm = omega arith;
+      held = λ old. all-filter (HeldAnswer T s.log (site_term s)) (λ d. nat_lt s.firm d.position) b.held (now old);
+    };
+    sends = λ up old h. firm-answers b authoritative up (now old) h;
+  }
+    where
+      d : Held
+      d = record { position = length s.log; to = Agent c.host; letter = reply_to c e }
+
+      b : SiteState
+      b = holds_at (length s.log) s (Agent c.host) (reply_to c e)
+
+      now : HoldsAnswers T s → HoldsAnswers T b
+      now old = all-append (HeldAnswer T s.log (site_term s)) s.held (d ∷ []) old (record { stands = λ _. again-stands E fits s c e is; term_is = tt }, tt)
+
   pub answers-steps : (E : Database) → ClaimsFit E (part_of_slot D i) T → (stamp : ℕ) → HandlerSteps E D stamp i (λ _ from l. Plain from l) (Answers D i T)
   answers-steps E fits stamp = record {
     settles = answers-settles;
-    called = λ s authoritative clear c. entry-answers s c.host _ (Sp c.call stamp c.body) (λ _. fits.call s.log c.call c.start stamp c.body) tt;
+    queued = λ s h l call start client body k. answers-same s _ refl refl refl (λ e. e) refl refl;
+    works = works_calls-walk E D stamp i (Answers D i T) (record {
+      moves = answers-settles.moves;
+      cleared = λ s. answers-same s _ refl refl refl (λ e. e) refl refl;
+      called = λ s authoritative clear c is. entry-answers s c.host _ (Sp c.call c.client stamp c.body) (λ _. fits.call s.log (Sp c.call c.client stamp c.body) c.call c.start stamp refl) tt;
+      answered = λ s authoritative clear c e is. again-answers E fits s authoritative c e is;
+    });
     round = λ s h l m round body k authoritative. held-answers s _ (Frag m round body) (fits.round s.log m round body) (λ start. refl);
     ended = λ s h l m o k authoritative. held-answers s _ (Done m o) (fits.end s.log m o) (λ start. refl);
     word = λ s h l w k. k;

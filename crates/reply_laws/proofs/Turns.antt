@@ -1,8 +1,9 @@
 -- What a whole turn of a site leaves of the answers that it holds, and what it sends to agents.
-use Rattle.std.proofs.Common.{◌≡◌, ◌<◌, true, [], ◌∷◌, refl, sym, subst, ap, ◌∙◌, arith}
+use Rattle.std.proofs.Common.{◌≡◌, ◌<◌, true, List, [], ◌∷◌, refl, sym, subst, ap, ◌∙◌, arith}
 use Rattle.std.proofs.lemmas.Bool.{and_parts}
 use Rattle.std.specs.Prelude.{ℕ, nat_lt, Option, Some, None, is_none}
 use Rattle.std.specs.List.{AllByRecursion}
+use Rattle.volt_base.specs.declared.entry.LastReply.{LastReply}
 use Rattle.volt_base.specs.declared.entry.Outcome.{Outcome}
 use Rattle.volt_wire.specs.Stream.{StreamHead}
 use Rattle.volt_wire.specs.Word.{Membership}
@@ -11,6 +12,7 @@ use Rattle.volt_wire.specs.declared.actor.Actor.TheVariants.{Agent}
 use Rattle.volt_wire.specs.declared.message.Msg.TheVariants as msg
 use Rattle.cluster_model.specs.Engine.{Database}
 use Rattle.cluster_model.specs.Log.{open_in, last_done}
+use Rattle.cluster_model.specs.Replies.{last_replies}
 use Rattle.cluster_model.specs.Words.{Deployment, part_of_slot}
 use Rattle.cluster_model.specs.Letters.{same, Letter, Sends, Turn, ◌▸◌, letter_in}
 use Rattle.cluster_model.specs.SiteState.{SiteState, Joining, site_term}
@@ -50,7 +52,7 @@ module _ (E : Database) (D : Deployment) (i : ℕ) (T : Claims) where
     to_initiator = (elim l.body as (λ m. ToInitiator E D i s (record l { body = m }) → ToInitiator E D i (with_shown s u) (record l { body = m })) [
       | msg.FragDone m round partial ↦ λ x. x
       | msg.Finished m ↦ λ x. x
-      | msg.MpState m is_open outcome ↦ λ x. record { leads = x.leads; runs = x.runs; term_is = x.term_is; later = x.later; on_disk = x.on_disk; told = x.told }
+      | msg.MpState m is_open outcome replies ↦ λ x. record { leads = x.leads; runs = x.runs; term_is = x.term_is; later = x.later; on_disk = x.on_disk; told = x.told }
       | m ↦ λ x. tt
     ]) k.to_initiator;
   }
@@ -64,7 +66,7 @@ module _ (E : Database) (D : Deployment) (i : ℕ) (T : Claims) where
     to_initiator = (elim l.body as (λ m. OfTerm (site_term u) (record l { body = m }) → ToInitiator E D i u (record l { body = m })) [
       | msg.FragDone m round partial ↦ λ x. x
       | msg.Finished m ↦ λ x. x
-      | msg.MpState m is_open outcome ↦ λ x. absurd x
+      | msg.MpState m is_open outcome replies ↦ λ x. absurd x
       | m ↦ λ x. tt
     ]) k.term_is;
   }
@@ -89,29 +91,29 @@ module _ (E : Database) (D : Deployment) (i : ℕ) (T : Claims) where
     joiners = λ s f same. record { still = refl; sends = λ up h. tt };
   }
 
-  tells-standing : (s : SiteState) (start : ℕ) → MayTell D i s → 0 < s.start → (o : Option ℕ) (last : Option (ℕ × Outcome))
-      → standing (open_in s.log) (last_done E (part_of_slot D i) s.log) ≡ standing o last
-      → SentAnswer E D i T (record s { has_told = true }) (letter_in (site_term s) start (standing o last))
-  tells-standing s start may up (Some m) last e = record {
+  tells-standing : (s : SiteState) (start : ℕ) → MayTell D i s → 0 < s.start → (o : Option ℕ) (last : Option (ℕ × Outcome)) (replies : List LastReply)
+      → standing (open_in s.log) (last_done E (part_of_slot D i) s.log) (last_replies E (part_of_slot D i) s.log) ≡ standing o last replies
+      → SentAnswer E D i T (record s { has_told = true }) (letter_in (site_term s) start (standing o last replies))
+  tells-standing s start may up (Some m) last replies e = record {
     answered = λ a. absurd (cc);
     to_initiator = record { leads = may.leads; runs = up; term_is = refl; later = may.later; on_disk = may.on_disk; told = e };
   }
-  tells-standing s start may up None None e = record {
+  tells-standing s start may up None None replies e = record {
     answered = λ a. absurd (cc);
     to_initiator = record { leads = may.leads; runs = up; term_is = refl; later = may.later; on_disk = may.on_disk; told = e };
   }
-  tells-standing s start may up None (Some last) e = record {
+  tells-standing s start may up None (Some last) replies e = record {
     answered = λ a. absurd (cc);
     to_initiator = record { leads = may.leads; runs = up; term_is = refl; later = may.later; on_disk = may.on_disk; told = e };
   }
 
   follows-tells : MayBeTold E D i (FollowsHandler E D i T)
   follows-tells s may first =
-      let o = open_in s.log in let last = last_done E (part_of_slot D i) s.log in
+      let o = open_in s.log in let last = last_done E (part_of_slot D i) s.log in let replies = last_replies E (part_of_slot D i) s.log in
       record {
         still = refl;
-        sends = λ up h. all-if (SentAnswer E D i T (record s { has_told = true })) (same (Agent first.0) (Agent h)) (letter_in (site_term s) first.1 (standing o last) ∷ []) []
-            (tells-standing s first.1 may up o last refl, tt) tt;
+        sends = λ up h. all-if (SentAnswer E D i T (record s { has_told = true })) (same (Agent first.0) (Agent h)) (letter_in (site_term s) first.1 (standing o last replies) ∷ []) []
+            (tells-standing s first.1 may up o last replies refl, tt) tt;
       }
 
   follows-asks : MayTakeAsks E D i (FollowsHandler E D i T)
@@ -139,7 +141,7 @@ reply-term : (term : ℕ) (l : Letter) → is_reply l ≡ true → OfTerm term l
 reply-term term l = elim l.body as (λ m. is_reply (record l { body = m }) ≡ true → OfTerm term (record l { body = m })) [
   | msg.FragDone m round partial ↦ λ e. absurd (cc)
   | msg.Finished m ↦ λ e. absurd (cc)
-  | msg.MpState m is_open outcome ↦ λ e. absurd (cc)
+  | msg.MpState m is_open outcome replies ↦ λ e. absurd (cc)
   | m ↦ λ e. tt
 ]
 

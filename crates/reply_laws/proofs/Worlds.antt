@@ -54,7 +54,7 @@ HasAnswers E w = AnswersOk E w.deployment w.sites w.channel (firm_entries w)
 -- the replay answers so as an answer is held
 tells-fit : (E : Database) (p : ℕ) → ClaimsFit E p (ClaimOf E p)
 tells-fit E p = record {
-  call = λ log call start point body. record { point = point; body = body; is = refl; answers = refl };
+  call = λ log e call start point is. record { point = point; is = is; answers = refl };
   round = λ log m round body. record { body = body; is = refl; answers = refl };
   end = λ log m o. record { outcome = o; is = refl };
 }
@@ -127,7 +127,7 @@ module _ (E : Database) (D : Deployment) (i : ℕ) (t : Turn SiteState) (G : ℕ
 -- ---- what is firm
 
 -- What is firm before an event is a prefix of what is so after it.
-firm-grows : (v w : World) → HasDisks v → HasDisks w → (p : ℕ) → Survives v w p → Prefix (firm_entries v p) (firm_entries w p)
+pub firm-grows : (v w : World) → HasDisks v → HasDisks w → (p : ℕ) → Survives v w p → Prefix (firm_entries v p) (firm_entries w p)
 firm-grows v w d e p f =
     let a = length-take-le (v.authoritative p).firm (v.authoritative p).log f.within in
     let b = length-take-le (w.authoritative p).firm (w.authoritative p).log (survives-same w e.logs p).within in

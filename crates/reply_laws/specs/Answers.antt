@@ -3,20 +3,22 @@ use Rattle.std.proofs.Common.{◌≡◌, Bool, true, false, List, [], ◌∷◌,
 use Rattle.std.specs.Prelude.{ℕ, ◌+◌, ◌≤◌, ◌<◌, length, Option}
 use Rattle.std.specs.List.{AllByRecursion}
 use Rattle.volt_base.specs.declared.entry.Entry.{Entry}
-use Rattle.volt_base.specs.declared.entry.Entry.TheVariants.{Sp, Frag, Done}
+use Rattle.volt_base.specs.declared.entry.Entry.TheVariants.{Frag, Done}
+use Rattle.volt_base.specs.declared.entry.LastReply.{LastReply}
 use Rattle.volt_base.specs.declared.entry.Outcome.{Outcome}
 use Rattle.volt_wire.specs.declared.actor.Actor.TheVariants.{Agent}
 use Rattle.volt_wire.specs.declared.end.End.{End}
 use Rattle.volt_wire.specs.declared.message.Msg.{Msg}
 use Rattle.volt_wire.specs.declared.message.Msg.TheVariants as msg
 use Rattle.cluster_model.specs.Engine.{Database}
-use Rattle.cluster_model.specs.Log.{answer_behind, open_in, last_done}
+use Rattle.cluster_model.specs.Log.{answer_behind, applied_by, open_in, last_done}
 use Rattle.cluster_model.specs.Words.{Deployment, part_of_slot}
 use Rattle.cluster_model.specs.Letters.{Blocks, Letter, Turn}
 use Rattle.cluster_model.specs.SiteState.{SiteState, Held, leads, site_term}
 use Rattle.cluster_model.specs.Site.{standing, is_first_term, has_all_on_disk}
-use Rattle.cluster_model.specs.Initiator.{end_of_reply}
+use Rattle.cluster_model.specs.Replies.{end_of_reply, last_replies}
 use Rattle.cluster_steps.specs.Lists.{Prefix}
+use Rattle.reply_laws.specs.LastReplies.{reply_at}
 
 -- ---- what is said of an entry
 
@@ -24,12 +26,11 @@ use Rattle.cluster_steps.specs.Lists.{Prefix}
 abbrev pub Claim : Type 1
 Claim = List Entry → Entry → Type 0
 
--- The entry is this call, and this end is what the replay of partition p answers to it.
+-- The entry applies this call, as the call itself or as its end, and this end is that of the reply which partition p gives there.
 pub record IsAnsweredCall (E : Database) (p call : ℕ) (end : End) (prefix : List Entry) (e : Entry) : Type 0 where
   pub point : ℕ
-  pub body : List ℕ
-  pub is : e ≡ Sp call point body
-  pub answers : end ≡ end_of_reply (answer_behind E p prefix e)
+  pub is : applied_by e ≡ record { call = call; point = point } ∷ []
+  pub answers : end ≡ end_of_reply (reply_at E p prefix e)
 
 -- It is this round, and this part is what the replay answers to it.
 pub record IsAnsweredRound (E : Database) (p m round : ℕ) (partial : List ℕ) (prefix : List Entry) (e : Entry) : Type 0 where
@@ -53,6 +54,12 @@ pub record Stands (P : Claim) (log : List Entry) : Type 0 where
 pub record StandsAt (P : Claim) (log : List Entry) (position : ℕ) : Type 0 where
   pub here : Stands P log
   pub at : length here.prefix + 1 ≡ position
+
+-- It stands there as the entry at this position or at an earlier one.
+pub record StandsBy (P : Claim) (log : List Entry) (position : ℕ) : Type 0 where
+  pub at : ℕ
+  pub stands : StandsAt P log at
+  pub waits : at ≤ position
 
 -- ---- answers
 
@@ -80,8 +87,8 @@ Claims = Msg Blocks → Claim
 
 -- What is claimed of an entry is so as the answer to it is held.
 pub record ClaimsFit (E : Database) (p : ℕ) (T : Claims) : Type 0 where
-  pub call : (log : List Entry) (call start point : ℕ) (body : List ℕ)
-      → T (msg.Reply call start (end_of_reply (answer_behind E p log (Sp call point body)))) log (Sp call point body)
+  pub call : (log : List Entry) (e : Entry) (call start point : ℕ) → applied_by e ≡ record { call = call; point = point } ∷ []
+      → T (msg.Reply call start (end_of_reply (reply_at E p log e))) log e
   pub round : (log : List Entry) (m round : ℕ) (body : List ℕ) → T (msg.FragDone m round (answer_behind E p log (Frag m round body))) log (Frag m round body)
   pub end : (log : List Entry) (m : ℕ) (o : Outcome) → T (msg.Finished m) log (Done m o)
 
@@ -90,13 +97,13 @@ abbrev pub OfTerm : ℕ → Letter → Type 0
 OfTerm term l = elim l.body as (λ _. Type 0) [
   | msg.FragDone m round partial ↦ l.term ≡ term
   | msg.Finished m ↦ l.term ≡ term
-  | msg.MpState m is_open outcome ↦ ⊥
+  | msg.MpState m is_open outcome replies ↦ ⊥
   | _ ↦ Unit {0}
 ]
 
--- An answer that is held waits for the position at which its entry stands, in the site's term.
+-- An answer that is held waits for the position at which its entry stands, or for a later one, in the site's term.
 pub record HeldAnswer (T : Claims) (log : List Entry) (term : ℕ) (d : Held) : Type 0 where
-  pub stands : is_answer d.letter.body ≡ true → StandsAt (T d.letter.body) log d.position
+  pub stands : is_answer d.letter.body ≡ true → StandsBy (T d.letter.body) log d.position
   pub term_is : OfTerm term d.letter
 
 -- All that a site holds.
@@ -111,21 +118,21 @@ pub record Answered (D : Deployment) (i : ℕ) (u : SiteState) (P : Claim) : Typ
   pub leads : leads D i u ≡ true
   pub runs : 0 < u.start
 
--- It says how its partition stands: all copies have its whole log on disk, under the mark of the term.
-pub record TellsState (E : Database) (D : Deployment) (i : ℕ) (u : SiteState) (term m : ℕ) (is_open : Bool) (outcome : Option Outcome) : Type 0 where
+-- It says how its partition stands, with its last replies: all copies have its whole log on disk, under the mark of the term.
+pub record TellsState (E : Database) (D : Deployment) (i : ℕ) (u : SiteState) (term m : ℕ) (is_open : Bool) (outcome : Option Outcome) (replies : List LastReply) : Type 0 where
   pub leads : leads D i u ≡ true
   pub runs : 0 < u.start
   pub term_is : term ≡ site_term u
   pub later : is_first_term u.view ≡ false
   pub on_disk : has_all_on_disk D i u ≡ true
-  pub told : standing (open_in u.log) (last_done E (part_of_slot D i) u.log) ≡ msg.MpState m is_open outcome
+  pub told : standing (open_in u.log) (last_done E (part_of_slot D i) u.log) (last_replies E (part_of_slot D i) u.log) ≡ msg.MpState m is_open outcome replies
 
 -- In its term, to an initiator.
 abbrev pub ToInitiator : Database → Deployment → ℕ → SiteState → Letter → Type 0
 ToInitiator E D i u l = elim l.body as (λ _. Type 0) [
   | msg.FragDone m round partial ↦ l.term ≡ site_term u
   | msg.Finished m ↦ l.term ≡ site_term u
-  | msg.MpState m is_open outcome ↦ TellsState E D i u l.term m is_open outcome
+  | msg.MpState m is_open outcome replies ↦ TellsState E D i u l.term m is_open outcome replies
   | _ ↦ Unit {0}
 ]
 

@@ -1,2 +1,3 @@
 pub mod Answers
+pub mod LastReplies
 pub mod UnderWay

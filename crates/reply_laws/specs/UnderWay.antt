@@ -30,7 +30,7 @@ TellsEnd l m = l.body ≡ msg.Finished m
 abbrev pub StandsFirm : World → ℕ → Claim → Type 0
 StandsFirm w i P = Stands P (firm_entries w (part_of_slot w.deployment i))
 
--- The call stands among them, and this end is what the replay answers there.
+-- An entry that applies the call stands among them, and this end is that of the reply which is given there.
 abbrev pub CallStandsFirm : Database → World → ℕ → ℕ → End → Type 0
 CallStandsFirm E w i call end = StandsFirm w i (IsAnsweredCall E (part_of_slot w.deployment i) call end)
 

@@ -14,9 +14,10 @@ ghost use Rattle.reply_laws.specs.UnderWay.{RepliesTo, AnswersRound, TellsEnd, C
 
 use cluster_model::laws::AnyDatabase;
 
-/// A reply to a call that is under way from a site to an agent is of an entry that is firm in the site's
-/// partition: the call stands there, and the reply is what the database answers to it behind the entries
-/// before it.
+/// A reply to a call that is under way from a site to an agent, also one that is given again, is of an
+/// entry that is firm in the site's partition: the entry applies the call, and the reply is what it
+/// answers there. That is what the database answers to a call on one partition behind the entries
+/// before it, and what the end of a call on all partitions carries.
 pub fn replies_are_of_firm_entries<B: AnyDatabase>()
     ensures { (input : Input) (w : World) (i h call : ℕ) (end : End) (l : Letter)
         → Reached B.database input w

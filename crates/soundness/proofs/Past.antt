@@ -42,7 +42,7 @@ database_of M d (p ∷ ps) = database_of M (M.after d p.call) ps
 -- the log of these calls
 abbrev pub entries_from : {A : Type 0} → (A → List ℕ) → ℕ → List (Past A) → List Entry
 entries_from body n [] = []
-entries_from body n (p ∷ ps) = Sp n p.point (body p.call) ∷ entries_from body (n + 1) ps
+entries_from body n (p ∷ ps) = Sp n 1 p.point (body p.call) ∷ entries_from body (n + 1) ps
 
 -- each call's stamps rise, and no call was submitted before the one ahead of it ended
 abbrev pub Timed : {A : Type 0} → ℕ → List (Past A) → ℕ → Type 0
@@ -74,9 +74,9 @@ lines_push M k n d [] p e = ap (λ x. record { call = x; client = 1; submitted =
 lines_push M k n d (q ∷ past) p e = ap (λ x. record { call = k; client = 1; submitted = q.submitted; ended = q.ended; end = M.reply d q.call } ∷ x) (lines_push M (k + 1) n (M.after d q.call) past p (omega (arith, e)))
 
 -- its entry is the last
-pub entries_push : {A : Type 0} (body : A → List ℕ) (k n : ℕ) (past : List (Past A)) (p : Past A) → n ≡ length past + k → entries_from body k (past ++ p ∷ []) ≡ entries_from body k past ++ Sp n p.point (body p.call) ∷ []
-entries_push body k n [] p e = ap (λ x. Sp x p.point (body p.call) ∷ []) (omega (arith, sym e))
-entries_push body k n (q ∷ past) p e = ap (λ x. Sp k q.point (body q.call) ∷ x) (entries_push body (k + 1) n past p (omega (arith, e)))
+pub entries_push : {A : Type 0} (body : A → List ℕ) (k n : ℕ) (past : List (Past A)) (p : Past A) → n ≡ length past + k → entries_from body k (past ++ p ∷ []) ≡ entries_from body k past ++ Sp n 1 p.point (body p.call) ∷ []
+entries_push body k n [] p e = ap (λ x. Sp x 1 p.point (body p.call) ∷ []) (omega (arith, sym e))
+entries_push body k n (q ∷ past) p e = ap (λ x. Sp k 1 q.point (body q.call) ∷ x) (entries_push body (k + 1) n past p (omega (arith, e)))
 
 -- its stamps are the latest
 pub Timed-push : {A : Type 0} (low middle high : ℕ) (past : List (Past A)) (p : Past A) → Timed low past middle → middle ≤ p.submitted → p.submitted < p.point → p.point < p.ended → p.ended ≤ high → Timed low (past ++ p ∷ []) high
@@ -94,14 +94,14 @@ Timed-later low high later (q ∷ past) t l = (t.0, t.1, t.2, Timed-later q.ende
 pub database_after_log : (S : Semantics) (M : Meaning) (h : Carries S M) (n : ℕ) (s : S.State) (past : List (Past M.Call)) → h.database (replay S s (entries_from h.body n past)) ≡ database_of M (h.database s) past
 database_after_log S M h n s [] = refl
 database_after_log S M h n s (p ∷ past) =
-    database_after_log S M h (n + 1) (S.after s (Sp n p.point (h.body p.call))) past ∙ ap (λ d. database_of M d past) (h.after s n p.point p.call)
+    database_after_log S M h (n + 1) (S.after s (Sp n 1 p.point (h.body p.call))) past ∙ ap (λ d. database_of M d past) (h.after s n 1 p.point p.call)
 
 -- it has noted them
 pub applied_after_log : (S : Semantics) (M : Meaning) (h : Carries S M) (n : ℕ) (s : S.State) (past : List (Past M.Call)) → S.applied (replay S s (entries_from h.body n past)) ≡ S.applied s ++ applied_from n past
 applied_after_log S M h n s [] = sym (append-nil (S.applied s))
 applied_after_log S M h n s (p ∷ past) =
-    applied_after_log S M h (n + 1) (S.after s (Sp n p.point (h.body p.call))) past
-    ∙ (ap (λ x. x ++ applied_from (n + 1) past) (h.applied s n p.point p.call)
+    applied_after_log S M h (n + 1) (S.after s (Sp n 1 p.point (h.body p.call))) past
+    ∙ (ap (λ x. x ++ applied_from (n + 1) past) (h.applied s n 1 p.point p.call)
     ∙ append_assoc (S.applied s) (record { call = n; point = p.point } ∷ []) (applied_from (n + 1) past))
 
 -- the serial list has each call

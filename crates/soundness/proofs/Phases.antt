@@ -67,9 +67,9 @@ module _ {A : Type 0} where
   entry_of body n Idle = []
   entry_of body n (Called c s) = []
   entry_of body n (Sent c s) = []
-  entry_of body n (Logged c s p) = Sp n p (body c) ∷ []
-  entry_of body n (Replied c s p) = Sp n p (body c) ∷ []
-  entry_of body n (Answered c s p) = Sp n p (body c) ∷ []
+  entry_of body n (Logged c s p) = Sp n 1 p (body c) ∷ []
+  entry_of body n (Replied c s p) = Sp n 1 p (body c) ∷ []
+  entry_of body n (Answered c s p) = Sp n 1 p (body c) ∷ []
 
   -- its entry once that is on disk
   abbrev pub firm_of : (A → List ℕ) → ℕ → Phase A → List Entry
@@ -77,8 +77,8 @@ module _ {A : Type 0} where
   firm_of body n (Called c s) = []
   firm_of body n (Sent c s) = []
   firm_of body n (Logged c s p) = []
-  firm_of body n (Replied c s p) = Sp n p (body c) ∷ []
-  firm_of body n (Answered c s p) = Sp n p (body c) ∷ []
+  firm_of body n (Replied c s p) = Sp n 1 p (body c) ∷ []
+  firm_of body n (Answered c s p) = Sp n 1 p (body c) ∷ []
 
   -- the reply that waits
   abbrev pub waiting_of : (A → List ℕ) → ℕ → Phase A → List Waiting
@@ -102,7 +102,7 @@ module _ {A : Type 0} where
   abbrev pub sps_in : (A → List ℕ) → ℕ → Phase A → List Msg
   sps_in body n Idle = []
   sps_in body n (Called c s) = []
-  sps_in body n (Sent c s) = msg.SpCall n 1 (body c) ∷ []
+  sps_in body n (Sent c s) = msg.SpCall n 1 1 (body c) ∷ []
   sps_in body n (Logged c s p) = []
   sps_in body n (Replied c s p) = []
   sps_in body n (Answered c s p) = []

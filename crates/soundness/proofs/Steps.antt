@@ -122,7 +122,7 @@ module _ (S : Semantics) (M : Meaning) (h : Carries S M) (calls : List M.Call) (
           site = st.site;
           clients = st.clients;
           sites = st.sites;
-          channels = Channels-sent_agent _ _ _ _ _ _ (Channels-took_call _ _ _ _ _ _ st.channels) (only (Site 0) (msg.SpCall n 1 (h.body c))) (only_site _);
+          channels = Channels-sent_agent _ _ _ _ _ _ (Channels-took_call _ _ _ _ _ _ st.channels) (only (Site 0) (msg.SpCall n 1 1 (h.body c))) (only_site _);
           timed = (st.timed.0, omega (arith, length_push w.trace e, st.timed.1));
           counted = omega (arith, length_push w.trace e, st.counted);
         },
@@ -134,10 +134,10 @@ module _ (S : Semantics) (M : Meaning) (h : Carries S M) (calls : List M.Call) (
       let e = Deliver (Site 0) (Agent 0) in
       let now = length w.trace + 1 in
       let log = entries_from h.body 1 past in
-      let entry = Sp n now (h.body c) in
-      let m = msg.SpCall n 1 (h.body c) in
+      let entry = Sp n 1 now (h.body c) in
+      let m = msg.SpCall n 1 1 (h.body c) in
       let answered : S.answer (replay S (S.opening 0) log) entry ≡ reply_to c =
-      h.answers (replay S (S.opening 0) log) n now c
+      h.answers (replay S (S.opening 0) log) n 1 now c
       ∙ ap (λ d. h.reply_bytes (M.reply d c)) (database_after_log S M h 1 (S.opening 0) past ∙ ap (λ d. database_of M d past) h.opens) in
       subst (λ ms. Good S M h calls (noted (delivered S now w (Site 0) (Agent 0) ms) e)) (sym st.channels.sp) (
         past,
@@ -166,7 +166,7 @@ module _ (S : Semantics) (M : Meaning) (h : Carries S M) (calls : List M.Call) (
   sync_good c s p left told st =
       let e = Sync 0 in
       let log = entries_from h.body 1 past in
-      let x : SiteState = record { log = log ++ Sp n p (h.body c) ∷ []; on_disk = length (log ++ []); waiting = record { host = 0; start = 1; call = n; reply = reply_to c } ∷ [] } in
+      let x : SiteState = record { log = log ++ Sp n 1 p (h.body c) ∷ []; on_disk = length (log ++ []); waiting = record { host = 0; start = 1; call = n; reply = reply_to c } ∷ [] } in
       subst (λ x. Good S M h calls (noted (record w { sites = set_at w.sites 0 (synced x); channel = sent w.channel (Site 0) (sync_sends x) }) e)) (sym st.site) (
         past,
         n,

@@ -17,12 +17,12 @@ pub record Carries (S : Semantics) (M : Meaning) : Type 0 where
   pub database : S.State → M.Database
   -- an engine opens with the empty database, and each call does to its state what it means
   pub opens : database (S.opening 0) ≡ M.database []
-  pub after : (s : S.State) (call point : ℕ) (c : M.Call) → database (S.after s (Sp call point (body c))) ≡ M.after (database s) c
-  pub answers : (s : S.State) (call point : ℕ) (c : M.Call) → S.answer s (Sp call point (body c)) ≡ reply_bytes (M.reply (database s) c)
+  pub after : (s : S.State) (call client point : ℕ) (c : M.Call) → database (S.after s (Sp call client point (body c))) ≡ M.after (database s) c
+  pub answers : (s : S.State) (call client point : ℕ) (c : M.Call) → S.answer s (Sp call client point (body c)) ≡ reply_bytes (M.reply (database s) c)
   pub is_answer : (d : M.Database) (c : M.Call) → is_answer (M.reply d c) ≡ true
   -- each call is noted with its point
   pub opens_applied : S.applied (S.opening 0) ≡ []
-  pub applied : (s : S.State) (call point : ℕ) (c : M.Call) → S.applied (S.after s (Sp call point (body c))) ≡ S.applied s ++ record { call = call; point = point } ∷ []
+  pub applied : (s : S.State) (call client point : ℕ) (c : M.Call) → S.applied (S.after s (Sp call client point (body c))) ≡ S.applied s ++ record { call = call; point = point } ∷ []
   -- the rows are the partition's
   pub rows : (s : S.State) → S.rows s ≡ flat_map table_line (M.part 0 (database s))
   -- there is one partition, and all calls are its

@@ -3,7 +3,7 @@ use Rattle.std.specs.Prelude.{ℕ, zero, suc, ◌≡◌, ◌==◌, ◌/◌, ◌�
 use Rattle.std.specs.Option.{option_map, option_map_or}
 use Rattle.std.specs.List.{list_any, list_all, range_with_len, AllByRecursion}
 use Rattle.volt_base.specs.declared.entry.Applied.{Applied}
-use Rattle.volt_report.specs.Report.{ReportEnd, Kept, User, Fault, Statements, Steps, Unknown, Lost, Down, CallLine, CopyLine, Report}
+use Rattle.volt_report.specs.Report.{ReportEnd, Kept, User, Fault, Statements, Steps, Size, Lost, Down, CallLine, CopyLine, Report}
 use Rattle.soundness.specs.Meaning.{Meaning, Asked, Script}
 
 -- ---- the serial list on one plain database
@@ -49,7 +49,7 @@ is_answer (User text) = true
 is_answer (Fault code) = true
 is_answer Statements = true
 is_answer Steps = true
-is_answer (Unknown start term) = false
+is_answer Size = true
 is_answer Lost = false
 is_answer (Down part) = false
 

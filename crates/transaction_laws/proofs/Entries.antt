@@ -5,9 +5,17 @@ pub mod Endings
 pub mod Aligned
 pub mod Points
 pub mod Even
+pub mod Calls
+pub mod Replies
+pub mod Applied
+pub mod Known
 pub use Machine.*
 pub use Since.*
 pub use Endings.*
 pub use Aligned.*
 pub use Points.*
 pub use Even.*
+pub use Calls.*
+pub use Replies.*
+pub use Applied.*
+pub use Known.*

@@ -3,6 +3,7 @@ pub mod InitiatorWords
 pub mod Orders
 pub mod Turns
 pub mod Beginning
+pub mod Answering
 pub mod Resting
 pub mod Settling
 pub mod Finishing
@@ -15,6 +16,7 @@ pub use InitiatorWords.*
 pub use Orders.*
 pub use Turns.*
 pub use Beginning.*
+pub use Answering.*
 pub use Resting.*
 pub use Settling.*
 pub use Finishing.*

@@ -3,7 +3,9 @@ pub mod Moves
 pub mod Later
 pub mod Worded
 pub mod Others
+pub mod Submitted
 pub use Moves.*
 pub use Later.*
 pub use Worded.*
 pub use Others.*
+pub use Submitted.*

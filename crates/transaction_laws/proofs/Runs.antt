@@ -5,4 +5,5 @@ pub mod Choices
 pub mod Epochs
 pub mod Leads
 pub mod Worlds
+pub mod Told
 pub mod Laws

@@ -22,13 +22,13 @@ first_stage E p = record { opened = None; number = number_of (E.opening_done p);
 
 -- the point of an end that applies a call; another one has none, and the last point stays
 abbrev pub point_after : ℕ → Outcome → ℕ
-point_after now (Kept call point) = point
-point_after now (Aborted call point) = point
+point_after now (Kept call client point reply) = point
+point_after now (Aborted call client point reply) = point
 point_after now Dropped = now
 point_after now Snapshot = now
 
 abbrev pub next_stage : Stage → Entry → Stage
-next_stage s (Sp call point body) = record s { point = point }
+next_stage s (Sp call client point body) = record s { point = point }
 next_stage s (Frag m round body) = record { opened = Some (m, round); number = m; point = s.point }
 next_stage s (Done m outcome) = record { opened = None; number = m; point = point_after s.point outcome }
 
@@ -53,14 +53,14 @@ RoundFits s m round =
 
 -- An end is that of the transaction that is open. A snapshot has no rounds. The point of a call isn't below the last one.
 abbrev pub EndFits : Stage → ℕ → Outcome → Type 0
-EndFits s m (Kept call point) = IsOpen s m × (s.point ≤ point)
-EndFits s m (Aborted call point) = IsOpen s m × (s.point ≤ point)
+EndFits s m (Kept call client point reply) = IsOpen s m × (s.point ≤ point)
+EndFits s m (Aborted call client point reply) = IsOpen s m × (s.point ≤ point)
 EndFits s m Dropped = IsOpen s m
 EndFits s m Snapshot = (s.opened ≡ None) × (s.number < m)
 
 -- A call on one partition runs where no transaction is open, at a point that isn't below the last one.
 abbrev pub Fits : Stage → Entry → Type 0
-Fits s (Sp call point body) = (s.opened ≡ None) × (s.point ≤ point)
+Fits s (Sp call client point body) = (s.opened ≡ None) × (s.point ≤ point)
 Fits s (Frag m round body) = RoundFits s m round
 Fits s (Done m outcome) = EndFits s m outcome
 

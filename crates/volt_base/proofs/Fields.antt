@@ -1,15 +1,11 @@
 -- A field that is read is the field that was written, and what was written is read again.
-use Rattle.std.proofs.Common.{◌≡◌, ℕ, zero, suc, ◌+◌, ◌^◌, ◌<◌, ◌≤◌, Bool, true, false, cond, eqb, ltb, List, [], ◌∷◌, ◌++◌, length, get_or, take, drop, Option, Some, None, refl, sym, ap, subst, ◌∙◌, append_assoc, arith, inl, inr}
-use Rattle.std.specs.Prelude.{◌&&◌}
+use Rattle.std.proofs.Common.{◌≡◌, ℕ, zero, suc, ◌+◌, ◌^◌, ◌<◌, ◌≤◌, Bool, true, false, cond, ltb, List, [], ◌∷◌, ◌++◌, length, get_or, take, drop, Option, Some, None, refl, sym, ap, subst, ◌∙◌, append_assoc, arith, inl, inr}
 use Rattle.std.specs.Int.{Width, w16, w32, w64, byte_len, from_be_bytes, to_be_bytes}
-use Rattle.std.proofs.lemmas.Bool.{cases_lt, ltb-false, le-ltb, eqb-true, and_parts}
-use Rattle.std.proofs.lemmas.Option.{cond_some}
+use Rattle.std.proofs.lemmas.Bool.{cases_lt, ltb-false, le-ltb}
 use Rattle.std.proofs.lemmas.List.{take_at, drop_at, take-append-drop, length-append, length-take, get_or-drop, get_or-take, get_or_past}
 use Rattle.std.proofs.lemmas.Nat.{be_bytes_2, be_bytes_4, be_bytes_8, from_be_bytes-to_be_bytes_2, from_be_bytes-to_be_bytes_4, from_be_bytes-to_be_bytes_8}
-use Rattle.volt_base.specs.declared.entry.Outcome.{Outcome}
-use Rattle.volt_base.specs.declared.entry.Outcome.TheVariants.{Dropped, Kept, Aborted, Snapshot}
-use Rattle.volt_base.specs.Spelling.{body_bytes, mark_bytes, outcome_bytes, OutcomeFits}
-use Rattle.volt_base.specs.Reading.{◌>>=◌, number_at, body_at, mark_at, without_call, outcome_of, outcome_at}
+use Rattle.volt_base.specs.Spelling.{body_bytes, mark_bytes, client_bytes, CallFits}
+use Rattle.volt_base.specs.Reading.{◌>>=◌, number_at, body_at, mark_at, client_at, of_client_at}
 
 abbrev pub IsBytes : List ℕ → Type 0
 IsBytes bytes = (i : ℕ) → get_or bytes i 0 < 256
@@ -120,63 +116,97 @@ body_again body rest lt =
     let long : ltb (length (body ++ rest)) (length body) ≡ false = le-ltb _ _ (omega (arith, length-append body rest)) in
     rw (number_again w32 (2 ^ 32) wide32 (length body) (body ++ rest) lt, long, take_at body rest (length body) refl, drop_at body rest (length body) refl) refl
 
--- ---- outcomes
+-- ---- calls and their points
 
-abbrev Mark : Type 0
-Mark = ℕ × ℕ × ℕ × List ℕ
+-- the kind of what was taken stands before it
+pub with_kind : (kind : ℕ) (bytes text rest : List ℕ) → Takes bytes text rest → Takes (kind ∷ bytes) (kind ∷ text) rest
+with_kind kind bytes text rest t = record { parts = ap (λ (x : List ℕ). kind ∷ x) t.parts; rest_fits = t.rest_fits }
 
-pub mark_takes : (bytes : List ℕ) (x : Mark) → IsBytes bytes → mark_at bytes ≡ Some x → Takes bytes (mark_bytes x.0 x.1 x.2) x.3 × (x.1 < 2 ^ 32) × (x.2 < 2 ^ 64)
+abbrev pub Mark : Type 0
+Mark = ℕ × ℕ × List ℕ
+
+pub mark_takes : (kind : ℕ) (bytes : List ℕ) (x : Mark) → IsBytes bytes → mark_at bytes ≡ Some x → Takes (kind ∷ bytes) (mark_bytes kind x.0 x.1) x.2 × (x.0 < 2 ^ 32) × (x.1 < 2 ^ 64)
 unfolding mark_at mark_bytes
-mark_takes [] x fits e = absurd cc
-mark_takes (kind ∷ bytes) x fits e =
-    let a = bind_some (number_at w32 bytes) (λ call. number_at w64 call.1 >>= λ point. Some (kind, call.0, point.0, point.1)) x e in
-    let b = bind_some (number_at w64 a.0.1) (λ point. Some (kind, a.0.0, point.0, point.1)) x a.2 in
-    let t0 = number_takes w32 (2 ^ 32) wide32 bytes a.0.0 a.0.1 (IsBytes-rest kind bytes fits) a.1 in
+mark_takes kind bytes x fits e =
+    let a = bind_some (number_at w32 bytes) (λ call. number_at w64 call.1 >>= λ point. Some (call.0, point.0, point.1)) x e in
+    let b = bind_some (number_at w64 a.0.1) (λ point. Some (a.0.0, point.0, point.1)) x a.2 in
+    let t0 = number_takes w32 (2 ^ 32) wide32 bytes a.0.0 a.0.1 fits a.1 in
     let t1 = number_takes w64 (2 ^ 64) wide64 a.0.1 b.0.0 b.0.1 t0.0.rest_fits b.1 in
     let both = Takes-then bytes (to_be_bytes w32 a.0.0) a.0.1 (to_be_bytes w64 b.0.0) b.0.1 t0.0 t1.0 in
-    let made : Mark = (kind, a.0.0, b.0.0, b.0.1) in
-    subst (λ (y : Mark). Takes (kind ∷ bytes) (mark_bytes y.0 y.1 y.2) y.3 × (y.1 < 2 ^ 32) × (y.2 < 2 ^ 64)) {x = made} (some_is made x b.2) (record { parts = ap (λ (t : List ℕ). kind ∷ t) both.parts; rest_fits = both.rest_fits }, t0.1, t1.1)
+    let made : Mark = (a.0.0, b.0.0, b.0.1) in
+    subst (λ (y : Mark). Takes (kind ∷ bytes) (mark_bytes kind y.0 y.1) y.2 × (y.0 < 2 ^ 32) × (y.1 < 2 ^ 64)) {x = made} (some_is made x b.2)
+    (with_kind kind bytes (to_be_bytes w32 a.0.0 ++ to_be_bytes w64 b.0.0) b.0.1 both, t0.1, t1.1)
 
-pub mark_again : (kind call point : ℕ) (rest : List ℕ) → call < 2 ^ 32 → point < 2 ^ 64 → mark_at (mark_bytes kind call point ++ rest) ≡ Some (kind, call, point, rest)
-unfolding mark_at mark_bytes
-mark_again kind call point rest c p =
-    rw (number_again w32 (2 ^ 32) wide32 call (to_be_bytes w64 point ++ rest) c, number_again w64 (2 ^ 64) wide64 point rest p) refl
+pub mark_again : (call point : ℕ) (rest : List ℕ) → call < 2 ^ 32 → point < 2 ^ 64 → mark_at ((to_be_bytes w32 call ++ to_be_bytes w64 point) ++ rest) ≡ Some (call, point, rest)
+unfolding mark_at
+mark_again call point rest c p =
+    ap mark_at (append_assoc (to_be_bytes w32 call) (to_be_bytes w64 point) rest)
+    ∙ rw (number_again w32 (2 ^ 32) wide32 call (to_be_bytes w64 point ++ rest) c, number_again w64 (2 ^ 64) wide64 point rest p) refl
 
--- what stands for no call is zeros
-without_call_is : (outcome : Outcome) (call point : ℕ) (o : Outcome) → without_call outcome call point ≡ Some o → (outcome ≡ o) × (call ≡ 0) × (point ≡ 0)
-without_call_is outcome call point o e =
-    let given = cond_some (eqb call 0 && eqb point 0) outcome o e in
-    let zeros = and_parts (eqb call 0) (eqb point 0) given.0 in
-    (given.1, eqb-true call 0 zeros.0, eqb-true point 0 zeros.1)
+abbrev pub OfClient : Type 0
+OfClient = ℕ × ℕ × ℕ × List ℕ × List ℕ
 
--- an outcome is spelled as the mark that it was read from
-outcome_is : (kind call point : ℕ) (o : Outcome) → outcome_of kind call point ≡ Some o → call < 2 ^ 32 → point < 2 ^ 64 → (outcome_bytes o ≡ mark_bytes kind call point) × OutcomeFits o
-unfolding outcome_bytes
-outcome_is zero call point o e c p =
-    let w = without_call_is Dropped call point o e in
-    rw (← w.0, w.1, w.2) (refl, tt)
-outcome_is (suc zero) call point o e c p =
-    rw (← some_is (Kept call point) o e) (refl, (c, p))
-outcome_is (suc (suc zero)) call point o e c p =
-    rw (← some_is (Aborted call point) o e) (refl, (c, p))
-outcome_is (suc (suc (suc zero))) call point o e c p =
-    let w = without_call_is Snapshot call point o e in
-    rw (← w.0, w.1, w.2) (refl, tt)
-outcome_is (suc (suc (suc (suc kind)))) call point o e c p = absurd cc
+-- what was read of a client's call
+pub record ClientTakes (kind : ℕ) (bytes : List ℕ) (x : OfClient) : Type 0 where
+  pub takes : Takes (kind ∷ bytes) (client_bytes kind x.0 x.1 x.2 x.3) x.4
+  pub call : CallFits x.0 x.1 x.2
+  pub some : 0 < x.1
+  pub short : length x.3 < 2 ^ 32
 
-pub outcome_takes : (bytes : List ℕ) (x : Outcome × List ℕ) → IsBytes bytes → outcome_at bytes ≡ Some x → Takes bytes (outcome_bytes x.0) x.1 × OutcomeFits x.0
-unfolding outcome_at
-outcome_takes bytes x fits e =
-    let a = bind_some (mark_at bytes) (λ mark. outcome_of mark.0 mark.1 mark.2 >>= λ outcome. Some (outcome, mark.3)) x e in
-    let b = bind_some (outcome_of a.0.0 a.0.1 a.0.2) (λ outcome. Some (outcome, a.0.3)) x a.2 in
-    let t = mark_takes bytes a.0 fits a.1 in
-    let o = outcome_is a.0.0 a.0.1 a.0.2 b.0 b.1 t.1 t.2 in
-    let made : Outcome × List ℕ = (b.0, a.0.3) in
-    subst (λ (y : Outcome × List ℕ). Takes bytes (outcome_bytes y.0) y.1 × OutcomeFits y.0) {x = made} (some_is made x b.2) (rw o.0 t.0, o.1)
+client_takes : (bytes : List ℕ) (client : ℕ) (rest : List ℕ) → IsBytes bytes → client_at bytes ≡ Some (client, rest) → Takes bytes (client ∷ []) rest × (client < 2 ^ 8) × (0 < client)
+client_takes [] client rest fits e = absurd cc
+client_takes (zero ∷ bytes) client rest fits e = absurd cc
+client_takes (suc n ∷ bytes) client rest fits e =
+    let is = some_is (suc n, bytes) (client, rest) e in
+    subst (λ (y : ℕ × List ℕ). Takes (suc n ∷ bytes) (y.0 ∷ []) y.1 × (y.0 < 2 ^ 8) × (0 < y.0)) {x = (suc n, bytes)} is
+    (record { parts = refl; rest_fits = IsBytes-rest (suc n) bytes fits }, omega (arith, fits 0), omega arith)
 
-pub outcome_again : (o : Outcome) (rest : List ℕ) → OutcomeFits o → outcome_at (outcome_bytes o ++ rest) ≡ Some (o, rest)
-unfolding outcome_at outcome_bytes
-outcome_again Dropped rest fits = rw (mark_again 0 0 0 rest (omega arith) (omega arith)) refl
-outcome_again (Kept call point) rest fits = rw (mark_again 1 call point rest fits.0 fits.1) refl
-outcome_again (Aborted call point) rest fits = rw (mark_again 2 call point rest fits.0 fits.1) refl
-outcome_again Snapshot rest fits = rw (mark_again 3 0 0 rest (omega arith) (omega arith)) refl
+pub of_client_takes : (kind : ℕ) (bytes : List ℕ) (x : OfClient) → IsBytes bytes → of_client_at bytes ≡ Some x → ClientTakes kind bytes x
+unfolding of_client_at client_bytes
+of_client_takes kind bytes x fits e =
+    let a = bind_some (number_at w32 bytes) (λ call. client_at call.1 >>= λ client. number_at w64 client.1 >>= λ point. body_at point.1 >>= λ body. Some (call.0, client.0, point.0, body.0, body.1)) x e in
+    let b = bind_some (client_at a.0.1) (λ client. number_at w64 client.1 >>= λ point. body_at point.1 >>= λ body. Some (a.0.0, client.0, point.0, body.0, body.1)) x a.2 in
+    let c = bind_some (number_at w64 b.0.1) (λ point. body_at point.1 >>= λ body. Some (a.0.0, b.0.0, point.0, body.0, body.1)) x b.2 in
+    let d = bind_some (body_at c.0.1) (λ body. Some (a.0.0, b.0.0, c.0.0, body.0, body.1)) x c.2 in
+    let t0 = number_takes w32 (2 ^ 32) wide32 bytes a.0.0 a.0.1 fits a.1 in
+    let t1 = client_takes a.0.1 b.0.0 b.0.1 t0.0.rest_fits b.1 in
+    let t2 = number_takes w64 (2 ^ 64) wide64 b.0.1 c.0.0 c.0.1 t1.0.rest_fits c.1 in
+    let t3 = body_takes c.0.1 d.0.0 d.0.1 t2.0.rest_fits d.1 in
+    let e23 = Takes-then b.0.1 (to_be_bytes w64 c.0.0) c.0.1 (body_bytes d.0.0) d.0.1 t2.0 t3.0 in
+    let e13 = Takes-then a.0.1 (b.0.0 ∷ []) b.0.1 (to_be_bytes w64 c.0.0 ++ body_bytes d.0.0) d.0.1 t1.0 e23 in
+    let e03 = Takes-then bytes (to_be_bytes w32 a.0.0) a.0.1 (b.0.0 ∷ (to_be_bytes w64 c.0.0 ++ body_bytes d.0.0)) d.0.1 t0.0 e13 in
+    let made : OfClient = (a.0.0, b.0.0, c.0.0, d.0.0, d.0.1) in
+    subst (λ (y : OfClient). ClientTakes kind bytes y) {x = made} (some_is made x d.2) (record {
+      takes = with_kind kind bytes (to_be_bytes w32 a.0.0 ++ b.0.0 ∷ (to_be_bytes w64 c.0.0 ++ body_bytes d.0.0)) d.0.1 e03;
+      call = (t0.1, t1.1, t2.1);
+      some = t1.2;
+      short = t3.1;
+    })
+
+-- behind its kind, what was written is read again
+abbrev pub client_rest : ℕ → ℕ → ℕ → List ℕ → List ℕ
+client_rest call client point bytes = to_be_bytes w32 call ++ client ∷ (to_be_bytes w64 point ++ body_bytes bytes)
+
+client_again : (n : ℕ) (rest : List ℕ) → 0 < n → client_at (n ∷ rest) ≡ Some (n, rest)
+client_again zero rest some = absurd (omega (arith, some))
+client_again (suc n) rest some = refl
+
+client_parts : (a : List ℕ) (client : ℕ) (b c rest : List ℕ) → (a ++ client ∷ (b ++ c)) ++ rest ≡ a ++ (client ∷ (b ++ (c ++ rest)))
+client_parts a client b c rest = append_assoc a (client ∷ (b ++ c)) rest ∙ ap (λ (t : List ℕ). a ++ (client ∷ t)) (append_assoc b c rest)
+
+pub of_client_again : (call client point : ℕ) (bytes rest : List ℕ) → CallFits call client point → 0 < client → length bytes < 2 ^ 32
+    → of_client_at (client_rest call client point bytes ++ rest) ≡ Some (call, client, point, bytes, rest)
+unfolding of_client_at
+of_client_again call client point bytes rest fits some short =
+    ap of_client_at (client_parts (to_be_bytes w32 call) client (to_be_bytes w64 point) (body_bytes bytes) rest)
+    ∙ rw (
+      number_again w32 (2 ^ 32) wide32 call (client ∷ (to_be_bytes w64 point ++ (body_bytes bytes ++ rest))) fits.0,
+      client_again client (to_be_bytes w64 point ++ (body_bytes bytes ++ rest)) some,
+      number_again w64 (2 ^ 64) wide64 point (body_bytes bytes ++ rest) fits.2,
+      body_again bytes rest short,
+    ) refl
+
+-- what is written piece by piece
+pub client_joined : (out : List ℕ) (kind : ℕ) (a : List ℕ) (client : ℕ) (b : List ℕ)
+    → (out ++ kind ∷ (a ++ client ∷ [])) ++ b ≡ out ++ kind ∷ (a ++ client ∷ b)
+client_joined out kind a client b = simp append_assoc

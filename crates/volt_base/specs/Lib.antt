@@ -1,4 +1,5 @@
 pub mod Reading
 pub mod Semantics
+pub mod Replies
 pub mod Spelling
 pub mod Faults

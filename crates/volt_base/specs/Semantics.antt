@@ -2,6 +2,7 @@
 use Rattle.std.specs.Prelude.{ℕ, Bool, List}
 use Rattle.volt_base.specs.declared.entry.Entry.{Entry}
 use Rattle.volt_base.specs.declared.entry.Applied.{Applied}
+use Rattle.volt_base.specs.declared.entry.LastReply.{LastReply}
 
 -- An abstract engine: the tables of one partition, of which the cluster knows these functions alone.
 pub record Semantics : Type 1 where
@@ -19,3 +20,5 @@ pub record Semantics : Type 1 where
   pub rows : State → List ℕ
   -- the calls that were applied, in their order
   pub applied : State → List Applied
+  -- the last reply to each client, by rising client
+  pub replies : State → List LastReply

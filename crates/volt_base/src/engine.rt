@@ -4,7 +4,7 @@ ghost use Rattle.std.specs.Prelude.{◌≡◌, ℕ, true, OnOk, IfOk};
 ghost use Rattle.volt_base.specs.Semantics.{Semantics};
 
 use crate::bytes::Bytes;
-use crate::entry::{Applied, Entry};
+use crate::entry::{Applied, Entry, LastReply};
 use crate::numbers::PartNo;
 use std::alloc::{AllocError, Global};
 
@@ -34,6 +34,10 @@ pub trait Engine: Drop {
     /// The calls that were applied, in their order.
     fn applied(&self) -> &[Applied]
         ensures { result.now ≡ meaning.applied (state self.now) };
+
+    /// The last reply to each client, by rising client.
+    fn replies(&self) -> &[LastReply]
+        ensures { result.now ≡ meaning.replies (state self.now) };
 }
 
 /// Makes the engines of a cluster.

@@ -3,7 +3,7 @@
 ghost use Rattle.std.specs.Prelude.{◌≡◌, ℕ, ◌<◌, ◌^◌, List, ◌++◌, length, OnOk, IfOk, IfSome, IfNone};
 
 use crate::bytes::Bytes;
-use crate::numbers::{CallNo, Stamp};
+use crate::numbers::{CallNo, ClientNo, Stamp};
 use crate::reading::{Unread, read_entry};
 use crate::spelling::put_entry;
 use std::alloc::{AllocError, Global};
@@ -15,15 +15,33 @@ pub struct Applied {
     pub point: Stamp,
 }
 
+/// The last reply to a client: the call that it answered, and its bytes.
+#[derive(Debug, Drop)]
+pub struct LastReply {
+    pub client: ClientNo,
+    pub call: CallNo,
+    pub reply: Bytes,
+}
+
 /// How a multi-partition transaction ended.
-#[derive(Clone, Copy, Debug, PartialEq, Eq)]
+#[derive(Debug, Drop)]
 pub enum Outcome {
     /// It left nothing behind, and its call may run again.
     Dropped,
-    /// Its changes stay, and the call is applied at this point.
-    Kept { call: CallNo, point: Stamp },
-    /// Its changes are undone, and the call is applied at this point.
-    Aborted { call: CallNo, point: Stamp },
+    /// Its changes stay, and the client's call is applied at this point with this reply.
+    Kept {
+        call: CallNo,
+        client: ClientNo,
+        point: Stamp,
+        reply: Bytes,
+    },
+    /// Its changes are undone, and the client's call is applied at this point with this reply.
+    Aborted {
+        call: CallNo,
+        client: ClientNo,
+        point: Stamp,
+        reply: Bytes,
+    },
     /// It was a snapshot.
     Snapshot,
 }
@@ -31,9 +49,10 @@ pub enum Outcome {
 /// An entry of a partition's log.
 #[derive(Debug, Drop)]
 pub enum Entry {
-    /// A whole single-partition call.
+    /// A whole single-partition call of a client. Client 0 is none.
     Sp {
         call: CallNo,
+        client: ClientNo,
         point: Stamp,
         body: Bytes,
     },
@@ -52,12 +71,14 @@ pub enum Entry {
 
 impl Entry {
     ghost use Rattle.volt_base.specs.declared.entry.Entry.{Entry};
-    ghost use Rattle.volt_base.specs.Spelling.{entry_bytes, body_of, Fits, BeginsWith, BeginsWithNone};
+    ghost use Rattle.volt_base.specs.Spelling.{entry_bytes, bytes_of, HasClientOfReply, Fits, BeginsWith, BeginsWithNone};
 
     /// The one spelling of the entry: a byte for its kind and then its fields, a number with its
-    /// high byte first and a body behind its length in four bytes. Those hold a length below 2^32.
+    /// high byte first, and a body or a reply behind its length in four bytes. Those hold a length
+    /// below 2^32. Entries of no client have a kind of their own, and no room for a reply.
     pub fn encode(&self, alloc: Global) -> Result<Bytes, AllocError>
-        requires { length (body_of self.now) < 2 ^ 32 }
+        requires length { length (bytes_of self.now) < 2 ^ 32 }
+        requires client { HasClientOfReply self.now }
         ensures spelled { IfOk result (λ bytes. bytes ≡ entry_bytes self.now) }
         ensures fits { OnOk result (Fits self.now) }
     {
@@ -67,7 +88,7 @@ impl Entry {
     }
 
     /// The entry whose spelling the bytes begin with, and how many bytes that has. More bytes may
-    /// follow it. `None` where they begin with no entry's spelling. Only the body takes memory.
+    /// follow it. `None` where they begin with no entry's spelling. Only the body or reply takes memory.
     pub fn decode(alloc: Global, bytes: &[u8]) -> Result<Option<(Entry, usize)>, AllocError>
         ensures found { IfOk result (λ read.
             IfSome read (λ found. BeginsWith bytes.now found.0 found.1)) }

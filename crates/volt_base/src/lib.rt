@@ -5,16 +5,20 @@
 #![tactic(auto)]
 
 mod bytes;
+mod coord;
 mod engine;
 mod entry;
 mod numbers;
 mod reading;
+mod replies;
 mod spelling;
 
 pub use bytes::Bytes;
+pub use coord::CoordStep;
 pub use engine::{Engine, MakeEngine};
-pub use entry::{Applied, Entry, Outcome};
+pub use entry::{Applied, Entry, LastReply, Outcome};
 pub use numbers::{CallNo, ClientNo, HostNo, PartNo, Pos, SlotNo, Stamp, Start, Term};
+pub use replies::keep_reply;
 pub use spelling::one_spelling;
 
 #[cfg(test)]

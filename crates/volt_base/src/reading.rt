@@ -1,12 +1,12 @@
 //! Reads an entry from the beginning of bytes. Numbers have their high byte first.
 
-ghost use Rattle.std.specs.Prelude.{◌≡◌};
+ghost use Rattle.std.specs.Prelude.{◌≡◌, Some, None};
 ghost use Rattle.std.specs.Int.{w16, w32, w64};
-ghost use Rattle.volt_base.specs.Reading.{Gives, number_at, body_at, mark_at, outcome_of, outcome_at, sp_at, frag_at, done_at, entry_at};
+ghost use Rattle.volt_base.specs.Reading.{Gives, number_at, body_at, mark_at, client_at, of_client_at, sp_at, client_sp_at, frag_at, outcome_of, applied_of, outcome_at, applied_at, done_at, entry_at};
 
 use crate::bytes::Bytes;
 use crate::entry::{Entry, Outcome};
-use crate::numbers::{CallNo, Stamp};
+use crate::numbers::{CallNo, ClientNo, Stamp};
 use std::alloc::{AllocError, Global};
 
 /// Why nothing was read.
@@ -75,51 +75,68 @@ fn read_body(bytes: &[u8]) -> Result<(&[u8], &[u8]), Unread>
 }
 
 #[tactic(auto, unfolding(crate::specs::Reading::mark_at))]
-fn read_mark(bytes: &[u8]) -> Result<(u8, CallNo, Stamp, &[u8]), Unread>
-    ensures { Gives (λ x. (x.0, x.1, x.2, x.3.now)) result (mark_at bytes.now) }
+fn read_mark(bytes: &[u8]) -> Result<(CallNo, Stamp, &[u8]), Unread>
+    ensures { Gives (λ x. (x.0, x.1, x.2.now)) result (mark_at bytes.now) }
+{
+    let (call, rest) = read_u32(bytes)?;
+    let (point, rest) = read_u64(rest)?;
+    Ok((call, point, rest))
+}
+
+fn read_client(bytes: &[u8]) -> Result<(ClientNo, &[u8]), Unread>
+    ensures { Gives (λ x. (x.0, x.1.now)) result (client_at bytes.now) }
 {
     match bytes {
-        [] => Err(Unread::NoEntry),
-        [kind, rest @ ..] => {
-            let (call, rest) = read_u32(rest)?;
-            let (point, rest) = read_u64(rest)?;
-            Ok((*kind, call, point, rest))
-        }
+        [] | [0, ..] => Err(Unread::NoEntry),
+        [client, rest @ ..] => Ok((*client, rest)),
     }
 }
 
-fn known_outcome(kind: u8, call: CallNo, point: Stamp) -> Option<Outcome>
-    ensures { result ≡ outcome_of kind call point }
+#[tactic(auto, unfolding(crate::specs::Reading::of_client_at))]
+fn read_of_client(bytes: &[u8]) -> Result<(CallNo, ClientNo, Stamp, &[u8], &[u8]), Unread>
+    ensures { Gives (λ x. (x.0, x.1, x.2, x.3.now, x.4.now)) result (of_client_at bytes.now) }
 {
-    match (kind, call, point) {
-        (0, 0, 0) => Some(Outcome::Dropped),
-        (1, _, _) => Some(Outcome::Kept { call, point }),
-        (2, _, _) => Some(Outcome::Aborted { call, point }),
-        (3, 0, 0) => Some(Outcome::Snapshot),
-        _ => None,
-    }
-}
-
-#[tactic(auto, unfolding(crate::specs::Reading::outcome_at))]
-fn read_outcome(bytes: &[u8]) -> Result<(Outcome, &[u8]), Unread>
-    ensures { Gives (λ x. (x.0, x.1.now)) result (outcome_at bytes.now) }
-{
-    let (kind, call, point, rest) = read_mark(bytes)?;
-    match known_outcome(kind, call, point) {
-        Some(outcome) => Ok((outcome, rest)),
-        None => Err(Unread::NoEntry),
-    }
+    let (call, rest) = read_u32(bytes)?;
+    let (client, rest) = read_client(rest)?;
+    let (point, rest) = read_u64(rest)?;
+    let (body, rest) = read_body(rest)?;
+    Ok((call, client, point, body, rest))
 }
 
 #[tactic(auto, unfolding(crate::specs::Reading::sp_at))]
 fn read_sp(alloc: Global, bytes: &[u8]) -> Result<(Entry, &[u8]), Unread>
     ensures { Gives (λ x. (x.0, x.1.now)) result (sp_at bytes.now) }
 {
-    let (call, rest) = read_u32(bytes)?;
-    let (point, rest) = read_u64(rest)?;
+    let (call, point, rest) = read_mark(bytes)?;
     let (body, rest) = read_body(rest)?;
     let body = Bytes::of(alloc, body)?;
-    Ok((Entry::Sp { call, point, body }, rest))
+    let client = 0;
+    Ok((
+        Entry::Sp {
+            call,
+            client,
+            point,
+            body,
+        },
+        rest,
+    ))
+}
+
+#[tactic(auto, unfolding(crate::specs::Reading::client_sp_at))]
+fn read_client_sp(alloc: Global, bytes: &[u8]) -> Result<(Entry, &[u8]), Unread>
+    ensures { Gives (λ x. (x.0, x.1.now)) result (client_sp_at bytes.now) }
+{
+    let (call, client, point, body, rest) = read_of_client(bytes)?;
+    let body = Bytes::of(alloc, body)?;
+    Ok((
+        Entry::Sp {
+            call,
+            client,
+            point,
+            body,
+        },
+        rest,
+    ))
 }
 
 #[tactic(auto, unfolding(crate::specs::Reading::frag_at))]
@@ -140,12 +157,110 @@ fn read_frag(alloc: Global, bytes: &[u8]) -> Result<(Entry, &[u8]), Unread>
     ))
 }
 
+fn known_outcome(alloc: Global, kind: u8, call: CallNo, point: Stamp) -> Option<Outcome>
+    ensures { result ≡ outcome_of kind call point }
+{
+    let client = 0;
+    let reply = Bytes::from_vec(Vec::new(alloc));
+    match (kind, call, point) {
+        (0, 0, 0) => Some(Outcome::Dropped),
+        (1, _, _) => Some(Outcome::Kept {
+            call,
+            client,
+            point,
+            reply,
+        }),
+        (2, _, _) => Some(Outcome::Aborted {
+            call,
+            client,
+            point,
+            reply,
+        }),
+        (3, 0, 0) => Some(Outcome::Snapshot),
+        _ => None,
+    }
+}
+
+fn known_applied(
+    kind: u8,
+    call: CallNo,
+    client: ClientNo,
+    point: Stamp,
+    reply: Bytes,
+) -> Option<Outcome>
+    ensures { result ≡ applied_of kind call client point reply }
+{
+    match kind {
+        1 => Some(Outcome::Kept {
+            call,
+            client,
+            point,
+            reply,
+        }),
+        2 => Some(Outcome::Aborted {
+            call,
+            client,
+            point,
+            reply,
+        }),
+        _ => None,
+    }
+}
+
+#[tactic(auto, unfolding(crate::specs::Reading::outcome_at))]
+fn read_outcome(alloc: Global, bytes: &[u8]) -> Result<(Outcome, &[u8]), Unread>
+    ensures { Gives (λ x. (x.0, x.1.now)) result (outcome_at bytes.now) }
+{
+    match bytes {
+        [] => Err(Unread::NoEntry),
+        [kind, rest @ ..] => {
+            let (call, point, rest) = read_mark(rest)?;
+            match known_outcome(alloc, *kind, call, point) {
+                Some(outcome) => Ok((outcome, rest)),
+                None => Err(Unread::NoEntry),
+            }
+        }
+    }
+}
+
+#[tactic(auto, unfolding(crate::specs::Reading::applied_at))]
+fn read_applied(alloc: Global, bytes: &[u8]) -> Result<(Outcome, &[u8]), Unread>
+    ensures { Gives (λ x. (x.0, x.1.now)) result (applied_at bytes.now) }
+{
+    match bytes {
+        [] => Err(Unread::NoEntry),
+        [kind, rest @ ..] => {
+            let (call, client, point, reply, rest) = read_of_client(rest)?;
+            let reply = Bytes::of(alloc, reply)?;
+            match known_applied(*kind, call, client, point, reply) {
+                Some(outcome) => Ok((outcome, rest)),
+                None => Err(Unread::NoEntry),
+            }
+        }
+    }
+}
+
 #[tactic(auto, unfolding(crate::specs::Reading::done_at))]
-fn read_done(bytes: &[u8]) -> Result<(Entry, &[u8]), Unread>
-    ensures { Gives (λ x. (x.0, x.1.now)) result (done_at bytes.now) }
+fn read_done(alloc: Global, bytes: &[u8]) -> Result<(Entry, &[u8]), Unread>
+    ensures { Gives (λ x. (x.0, x.1.now)) result (done_at outcome_at bytes.now) }
 {
     let (transaction, rest) = read_u64(bytes)?;
-    let (outcome, rest) = read_outcome(rest)?;
+    let (outcome, rest) = read_outcome(alloc, rest)?;
+    Ok((
+        Entry::Done {
+            transaction,
+            outcome,
+        },
+        rest,
+    ))
+}
+
+#[tactic(auto, unfolding(crate::specs::Reading::done_at))]
+fn read_client_done(alloc: Global, bytes: &[u8]) -> Result<(Entry, &[u8]), Unread>
+    ensures { Gives (λ x. (x.0, x.1.now)) result (done_at applied_at bytes.now) }
+{
+    let (transaction, rest) = read_u64(bytes)?;
+    let (outcome, rest) = read_applied(alloc, rest)?;
     Ok((
         Entry::Done {
             transaction,
@@ -163,7 +278,9 @@ pub(crate) fn read_entry(alloc: Global, bytes: &[u8]) -> Result<(Entry, &[u8]), 
     match bytes {
         [1, rest @ ..] => read_sp(alloc, rest),
         [2, rest @ ..] => read_frag(alloc, rest),
-        [3, rest @ ..] => read_done(rest),
+        [3, rest @ ..] => read_done(alloc, rest),
+        [4, rest @ ..] => read_client_sp(alloc, rest),
+        [5, rest @ ..] => read_client_done(alloc, rest),
         _ => Err(Unread::NoEntry),
     }
 }

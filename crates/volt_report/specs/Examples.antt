@@ -6,7 +6,7 @@ use Rattle.volt_value.specs.declared.value.Value.TheVariants as value
 use Rattle.volt_wire.specs.declared.actor.Actor.TheVariants.{Director, Client, Agent, Site, Scanner}
 use Rattle.volt_wire.specs.declared.event.Event.{Event}
 use Rattle.volt_wire.specs.declared.event.Event.TheVariants.{Deliver, Sync, Scan, Recover, Item, Submit, Idle}
-use Rattle.volt_report.specs.Report.{RowLine, ReportEnd, Kept, User, Fault, Statements, Steps, Unknown, Lost, Down, CallLine, CopyLine, Report}
+use Rattle.volt_report.specs.Report.{RowLine, ReportEnd, Kept, User, Fault, Statements, Steps, Size, Lost, Down, CallLine, CopyLine, Report}
 
 -- a number, and a text with a quote in it
 abbrev pub note : List Value
@@ -26,7 +26,7 @@ ended call end = record { call = call; client = 2; submitted = 3; ended = 21; en
 
 -- a call for each kind of end but faults
 abbrev pub ended_calls : List CallLine
-ended_calls = ended 1 (Kept (blank ∷ note ∷ [])) ∷ ended 2 (Kept []) ∷ ended 3 (User (codes "that's all")) ∷ ended 4 Statements ∷ ended 5 Steps ∷ ended 6 (Unknown 7 12) ∷ ended 8 Lost ∷ ended 9 (Down 0) ∷ []
+ended_calls = ended 1 (Kept (blank ∷ note ∷ [])) ∷ ended 2 (Kept []) ∷ ended 3 (User (codes "that's all")) ∷ ended 4 Statements ∷ ended 5 Steps ∷ ended 6 Size ∷ ended 8 Lost ∷ ended 9 (Down 0) ∷ []
 
 -- a call for each fault
 abbrev pub faulted_calls : List CallLine

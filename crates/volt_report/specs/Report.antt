@@ -17,12 +17,11 @@ pub data ReportEnd : Type 0 where
   User : List ℕ → ReportEnd
   -- a statement met the fault of this code
   Fault : ℕ → ReportEnd
-  -- too many statements, or too many steps
+  -- too many statements, too many steps, or a reply that is too long
   Statements : ReportEnd
   Steps : ReportEnd
-  -- the host of this start, to which it was sent, was lost in this term
-  Unknown : ℕ → ℕ → ReportEnd
-  -- the client's own agent stopped
+  Size : ReportEnd
+  -- the agents that the client knew have stopped
   Lost : ReportEnd
   -- this partition has no copy
   Down : ℕ → ReportEnd

@@ -10,7 +10,7 @@ use Rattle.volt_wire.specs.declared.actor.Actor.{Actor}
 use Rattle.volt_wire.specs.declared.actor.Actor.TheVariants.{Director, Client, Agent, Site, Scanner}
 use Rattle.volt_wire.specs.declared.event.Event.{Event}
 use Rattle.volt_wire.specs.declared.event.Event.TheVariants.{Deliver, Sync, Scan, Recover, Item, Submit, Idle}
-use Rattle.volt_report.specs.Report.{RowLine, ReportEnd, Kept, User, Fault, Statements, Steps, Unknown, Lost, Down, CallLine, CopyLine, Report}
+use Rattle.volt_report.specs.Report.{RowLine, ReportEnd, Kept, User, Fault, Statements, Steps, Size, Lost, Down, CallLine, CopyLine, Report}
 
 -- a number behind a space
 abbrev pub then_number : ℕ → List ℕ
@@ -58,7 +58,7 @@ end_text (User text) = codes "abort user " ++ quoted text ++ newline
 end_text (Fault code) = codes "abort fault " ++ fault_name code ++ newline
 end_text Statements = codes "abort Statements" ++ newline
 end_text Steps = codes "abort Steps" ++ newline
-end_text (Unknown start term) = codes "unknown" ++ then_number start ++ then_number term ++ newline
+end_text Size = codes "abort Size" ++ newline
 end_text Lost = codes "lost" ++ newline
 end_text (Down part) = codes "down" ++ then_number part ++ newline
 

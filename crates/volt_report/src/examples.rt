@@ -9,7 +9,7 @@ pub fn example_ends()
     ensures { section (codes "calls") call_text ended_calls ≡
         codes "calls 8\n1 2 3 21 ok 2\n NULL -5\n 10 'it''s'\n2 2 3 21 ok 0\n"
         ++ codes "3 2 3 21 abort user 'that''s all'\n4 2 3 21 abort Statements\n"
-        ++ codes "5 2 3 21 abort Steps\n6 2 3 21 unknown 7 12\n8 2 3 21 lost\n"
+        ++ codes "5 2 3 21 abort Steps\n6 2 3 21 abort Size\n8 2 3 21 lost\n"
         ++ codes "9 2 3 21 down 0\n" }
 {}
 

@@ -1,6 +1,7 @@
 -- What a leader tells a joiner before it streams its tables.
 use Rattle.std.specs.Prelude.{ℕ, List, Option}
 use Rattle.volt_base.specs.declared.entry.Applied.{Applied}
+use Rattle.volt_base.specs.declared.entry.LastReply.{LastReply}
 use Rattle.volt_base.specs.declared.entry.Outcome.{Outcome}
 
 pub record StreamHead : Type 0 where
@@ -12,3 +13,5 @@ pub record StreamHead : Type 0 where
   pub applied : List Applied
   -- the last multi-partition transaction that was done by then
   pub last : Option (ℕ × Outcome)
+  -- the last reply to each client by then, by rising client
+  pub replies : List LastReply

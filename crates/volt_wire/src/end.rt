@@ -1,4 +1,4 @@
-use volt_base::{Bytes, PartNo, Start, Term};
+use volt_base::{Bytes, PartNo};
 
 /// How a call ended.
 #[derive(Debug, Drop)]
@@ -7,11 +7,10 @@ pub enum End {
     Ok(Bytes),
     /// It aborted, and this is its reply.
     Abort(Bytes),
-    /// The host of this start, to which the call was sent, is lost in the word of this term. The
-    /// call may have been applied or not.
-    Unknown { start: Start, term: Term },
-    /// The client's own agent stopped before it answered. The call may have been applied or not.
+    /// The agents that the client knew have stopped before one answered. The call may have been applied
+    /// or not.
     Lost,
-    /// The call wasn't run, since this partition had no copy left.
+    /// This partition had no copy left as the call was asked for. One that was asked again may have been
+    /// applied before, or not.
     Down { part: PartNo },
 }

@@ -4,7 +4,6 @@
 
 mod actor;
 mod end;
-mod entries;
 mod event;
 mod header;
 mod item;
@@ -14,7 +13,6 @@ mod word;
 
 pub use actor::Actor;
 pub use end::End;
-pub use entries::Entries;
 pub use event::Event;
 pub use header::Header;
 pub use item::{Item, TimedItem};

@@ -1,9 +1,11 @@
 use crate::actor::Actor;
 use crate::end::End;
-use crate::entries::Entries;
 use crate::stream::Stream;
 use crate::word::{Admissions, Starts, Word};
-use volt_base::{Bytes, CallNo, Entry, Outcome, PartNo, Pos, SlotNo, Start, Term};
+use sqlite_items::Items;
+use volt_base::{
+    Bytes, CallNo, ClientNo, Entry, LastReply, Outcome, PartNo, Pos, SlotNo, Start, Term,
+};
 
 /// A message from one actor to another. What its receiver does with it stands in the definitions of
 /// the cluster's actors, under the message's name. A scan of the engine is an `S`.
@@ -72,10 +74,11 @@ pub enum Msg<S> {
     Decided {
         word: Word,
     },
-    /// To the initiator from an agent of this start: run this call on all partitions.
+    /// To the initiator from an agent of this start: run this call of a client on all partitions.
     MpCall {
         call: CallNo,
         start: Start,
+        client: ClientNo,
         body: Bytes,
     },
     /// From the initiator to the agent that asked: the call ended so.
@@ -89,10 +92,11 @@ pub enum Msg<S> {
     },
 
     // ---- from an agent to a site
-    /// From an agent of this start to the leader of a partition: run this call.
+    /// From an agent of this start to the leader of a partition: run this call of a client.
     SpCall {
         call: CallNo,
         start: Start,
+        client: ClientNo,
         body: Bytes,
     },
     /// To an agent's own sites: the word that it has decided, or as a joiner has taken.
@@ -129,11 +133,12 @@ pub enum Msg<S> {
         transaction: u64,
     },
     /// To the initiator of a new term: the transaction that is open in a partition, or the last one
-    /// that was done.
+    /// that was done, and its last replies.
     MpState {
         transaction: u64,
         is_open: bool,
         outcome: Option<Outcome>,
+        replies: Items<LastReply>,
     },
     /// To a joiner's own agent: the site has loaded its tables.
     Loaded {
@@ -155,12 +160,12 @@ pub enum Msg<S> {
     Report {
         position: Pos,
         floor: Pos,
-        tail: Entries,
+        tail: Items<Entry>,
     },
     /// From a leader to a copy that reported: the entries that it lacks, which follow this position.
     Repair {
         from: Pos,
-        entries: Entries,
+        entries: Items<Entry>,
     },
     /// From a joiner's site of this start and slot to the leader: let me join.
     JoinAsk {

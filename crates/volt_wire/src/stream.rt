@@ -1,10 +1,10 @@
 use std::boxed::Box;
 use std::marker::Model;
-use volt_base::{Applied, Outcome, Pos, Term};
+use volt_base::{Applied, LastReply, Outcome, Pos, Term};
 
 /// What a leader tells a joiner before it streams its tables: the position at which they are read
-/// out, the mark of the base that is made of them, the calls applied by then, and the last
-/// multi-partition transaction that was done.
+/// out, the mark of the base that is made of them, the calls applied by then, the last
+/// multi-partition transaction that was done, and the last reply to each client.
 #[derive(Debug, Drop)]
 pub struct Stream {
     held: Box<HeldStream>,
@@ -16,6 +16,7 @@ struct HeldStream {
     mark: Term,
     applied: Vec<Applied>,
     last: Option<(u64, Outcome)>,
+    replies: Vec<LastReply>,
 }
 
 impl Model for Stream {
@@ -28,5 +29,6 @@ impl Model for Stream {
       mark = s.held.value.mark;
       applied = s.held.value.applied.items;
       last = s.held.value.last;
+      replies = s.held.value.replies.items;
     } };
 }

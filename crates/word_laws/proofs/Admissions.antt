@@ -6,7 +6,7 @@ use Rattle.std.specs.List.{AllByRecursion}
 use Rattle.volt_wire.specs.Word.{Membership}
 use Rattle.volt_wire.specs.declared.actor.Actor.TheVariants.{Agent}
 use Rattle.volt_wire.specs.declared.message.Msg.TheVariants as msg
-use Rattle.cluster_model.specs.Words.{is_in, initiator, term_of, same_word, with_admitted}
+use Rattle.cluster_model.specs.Words.{is_in, start_of, initiator, term_of, same_word, with_admitted}
 use Rattle.cluster_model.specs.Letters.{Letter, Sends}
 use Rattle.cluster_steps.specs.Lists.{In}
 use Rattle.word_laws.specs.Histories.{State, Admitted, Within, Alike, names, agent_start, Begun, IsRunning, Gone, Distinct, Earlier, Falls, GoodWord, ClosesFrom, CameOk, OwnOk, AdmittedOk, IsClosed, ClosedUnderWay, WordsHold}
@@ -36,8 +36,8 @@ not-closing began j o (l ∷ ls) h e (inl c) = (elim l.body as (λ m. ClosesFrom
 
 module _ (S : State) (H : WordsHold S) (n : ℕ) (W V : Membership) (j h term : ℕ) (out : Sends)
     (up : 0 < agent_start S n) (own : (S.agents n).own ≡ Some W) (decided : (S.agents n).decided ≡ Some V) (same : same_word W V ≡ true)
-    (init : initiator V ≡ Some (n, agent_start S n)) (came : CameOk S h n term j) (term_is : term_of W ≡ term) (over : agent_start S n < j)
-    (sends : (g : ℕ) → out (Agent g) ≡ said_to n (agent_start S n) (with_admitted j h W) g) where
+    (init : initiator V ≡ Some (n, agent_start S n)) (came : CameOk S h n term j) (term_is : term_of W ≡ term) (over : (g r : ℕ) → start_of W g ≡ Some r → r < j)
+    (sends : (g : ℕ) → out (Agent g) ≡ said_to S.deployment n (agent_start S n) (with_admitted j h W) g) where
   abbrev s : ℕ
   s = agent_start S n
 

@@ -10,7 +10,8 @@ use Rattle.volt_wire.specs.declared.message.Msg.TheVariants as msg
 use Rattle.cluster_model.specs.Engine.{Database}
 use Rattle.cluster_model.specs.Words.{Deployment, is_host, term_in}
 use Rattle.cluster_model.specs.Letters.{Letter, Turn, becomes, ◌▸◌, arrival, Arrival, Taken, Refused, Waits, Waiting, of_term, above_term}
-use Rattle.cluster_model.specs.AgentState.{AgentState, Admission, new_agent, stops, stops_with_host}
+use Rattle.cluster_model.specs.AgentState.{AgentState, new_agent, stops, stops_with_host}
+use Rattle.cluster_model.specs.declared.initiating.Queued.TheVariants.{Admission}
 use Rattle.cluster_model.specs.Agent.{agent_handler, handler_and_word, unless_stopped, takes_each, takes_waiting, agent_runs, agent_takes, agent_turn, start_after, start_taken, on_start}
 use Rattle.cluster_model.specs.Environment.{Environment, NoFault, DiskFails, NoMemory, DisksShow}
 use Rattle.cluster_model.specs.World.{took, rest}
@@ -88,9 +89,9 @@ came-popped S k n j l ls h is = (
 pub calm-event : {M : ℕ → ℕ → Type 0} (E : Database) (P : State) (n stamp : ℕ) (from : Actor) (l : Letter) → WordsHold P → 0 < agent_start P n → (BringsWord from l → ⊥)
     → ((j h term : ℕ) → In (Admission j h term) (asked_by from l) → QueuedAdmissionOk P n (Admission j h term))
     → ((j h term : ℕ) → In (Admission j h term) ((P.agents n).initiating.queue ++ asked_by from l) → M j h)
-    → WordsTurn M P n (agent_handler E P.deployment n stamp (P.agents n) from l ▸ tells n (P.agents n).own)
+    → WordsTurn M P n (agent_handler E P.deployment n stamp (P.agents n) from l ▸ tells P.deployment n (P.agents n).own)
 calm-event E P n stamp from l h up calm new may =
-    calm-handler P h P.deployment n (asked_by from l) (loaded_by (P.agents n) from l) (agent_handler E P.deployment n stamp (P.agents n) from l) up
+    calm-handler P h n (asked_by from l) (loaded_by (P.agents n) from l) (agent_handler E P.deployment n stamp (P.agents n) from l) up
     (handler-calm E P.deployment n stamp (P.agents n) from l calm) new may
 
 -- ---- the handler of a message, and what the agent says then
@@ -100,11 +101,11 @@ pub handler-event : {M : ℕ → ℕ → Type 0} (E : Database) (S : State) (n s
     → S.channel from (Agent n) ≡ l ∷ ls
     → arrival (agent_start S n) (term_in (S.agents n).decided) l ≡ Taken
     → ((j h term : ℕ) → In (Admission j h term) ((S.agents n).initiating.queue ++ asked_by from l) → M j h)
-    → WordsTurn M (agent_popped S from n) n (agent_handler E S.deployment n stamp (S.agents n) from l ▸ tells n (S.agents n).own)
+    → WordsTurn M (agent_popped S from n) n (agent_handler E S.deployment n stamp (S.agents n) from l ▸ tells S.deployment n (S.agents n).own)
 handler-event {M = M} E S n stamp (Agent k) l ls h up is taken may = elim l.body as (λ m. S.channel (Agent k) (Agent n) ≡ record l { body = m } ∷ ls
     → arrival (agent_start S n) (term_in (S.agents n).decided) (record l { body = m }) ≡ Taken
     → ((j h term : ℕ) → In (Admission j h term) ((S.agents n).initiating.queue ++ asked_by (Agent k) (record l { body = m })) → M j h)
-    → WordsTurn M (agent_popped S (Agent k) n) n (agent_handler E S.deployment n stamp (S.agents n) (Agent k) (record l { body = m }) ▸ tells n (S.agents n).own)) [
+    → WordsTurn M (agent_popped S (Agent k) n) n (agent_handler E S.deployment n stamp (S.agents n) (Agent k) (record l { body = m }) ▸ tells S.deployment n (S.agents n).own)) [
       | msg.Closed o ↦ λ e a may. none-handler (closed-handler S h n k o l ls up e)
       | msg.Word base lost admitted ↦ λ e a may. none-handler (word-handler S h n k base lost admitted l ls up e
           (arrival-taken (agent_start S n) (term_in (S.agents n).decided) (record l { body = msg.Word base lost admitted }) a))
@@ -144,8 +145,8 @@ asked-waiting P n (Scanner x) l w j h term i = absurd i
 waited-handler : (E : Database) (P : State) (n stamp : ℕ) (from : Actor) (l : Letter) → WordsHold P → 0 < agent_start P n → AgentWaitingFrom P n from l
     → WordsTurn Anyone P n (handler_and_word E P.deployment n stamp (P.agents n) from l)
 waited-handler E P n stamp from l h up w =
-    subst (WordsTurn Anyone P n) (then-assoc (agent_handler E P.deployment n stamp (P.agents n) from l) (tells n (P.agents n).own) (concludes P.deployment n))
-    (concluded-handler P n P.deployment (agent_handler E P.deployment n stamp (P.agents n) from l ▸ tells n (P.agents n).own)
+    subst (WordsTurn Anyone P n) (then-assoc (agent_handler E P.deployment n stamp (P.agents n) from l) (tells P.deployment n (P.agents n).own) (concludes P.deployment n))
+    (concluded-handler P n P.deployment (agent_handler E P.deployment n stamp (P.agents n) from l ▸ tells P.deployment n (P.agents n).own)
     (calm-event E P n stamp from l h up (waiting-brings P n from l w) (asked-waiting P n from l w) (λ j g term i. tt)))
 
 -- an Admit that came stays one that came
@@ -195,19 +196,27 @@ pub taken-event : (E : Database) (S : State) (n stamp : ℕ) (from : Actor) (l :
     → WordsTurn Anyone (agent_popped S from n) n (handler_and_word E S.deployment n stamp (S.agents n) from l ▸ takes_waiting E S.deployment n stamp)
 taken-event E S n stamp from l ls h up is taken =
     on-handler (agent_popped S from n) n (handler_and_word E S.deployment n stamp (S.agents n) from l) (takes_waiting E S.deployment n stamp)
-    (subst (WordsTurn Anyone (agent_popped S from n) n) (then-assoc (agent_handler E S.deployment n stamp (S.agents n) from l) (tells n (S.agents n).own) (concludes S.deployment n))
-    (concluded-handler (agent_popped S from n) n S.deployment (agent_handler E S.deployment n stamp (S.agents n) from l ▸ tells n (S.agents n).own)
+    (subst (WordsTurn Anyone (agent_popped S from n) n) (then-assoc (agent_handler E S.deployment n stamp (S.agents n) from l) (tells S.deployment n (S.agents n).own) (concludes S.deployment n))
+    (concluded-handler (agent_popped S from n) n S.deployment (agent_handler E S.deployment n stamp (S.agents n) from l ▸ tells S.deployment n (S.agents n).own)
     (handler-event E S n stamp from l ls h up is taken (λ j g term i. tt))))
     (none-waited E S.deployment n stamp)
     (λ T e q later others g u. waited E S.deployment n stamp T q g u)
 
+-- what a letter has of history doesn't matter
+without-past : (S : State) (n : ℕ) (from : Actor) (l : Letter) → AgentWaitingFrom S n from l → AgentWaitingFrom S n from (record l { past = [] })
+without-past S n Director l k = k
+without-past S n (Client c) l k = k
+without-past S n (Agent g) l k = k
+without-past S n (Site c) l k = k
+without-past S n (Scanner c) l k = k
+
 -- one that waits for its term
 pub waits-event : {M : ℕ → ℕ → Type 0} (S : State) (n : ℕ) (from : Actor) (l : Letter) (ls : List Letter) → WordsHold S → 0 < agent_start S n → S.channel from (Agent n) ≡ l ∷ ls
     → arrival (agent_start S n) (term_in (S.agents n).decided) l ≡ Waits
-    → WordsTurn M (agent_popped S from n) n (becomes (record (S.agents n) { waiting = (S.agents n).waiting ++ record { from = from; letter = l } ∷ [] }))
+    → WordsTurn M (agent_popped S from n) n (becomes (record (S.agents n) { waiting = (S.agents n).waiting ++ record { from = from; letter = record l { past = [] } } ∷ [] }))
 waits-event S n from l ls h up is waits =
-    handler-plain (agent_popped S from n) n (becomes (record (S.agents n) { waiting = (S.agents n).waiting ++ record { from = from; letter = l } ∷ [] })) (inl (refl, up))
-    (waits-holds (agent_popped S from n) from n l (may-wait from l is waits)
+    handler-plain (agent_popped S from n) n (becomes (record (S.agents n) { waiting = (S.agents n).waiting ++ record { from = from; letter = record l { past = [] } } ∷ [] })) (inl (refl, up))
+    (waits-holds (agent_popped S from n) from n (record l { past = [] }) (without-past (agent_popped S from n) n from l (may-wait from l is waits))
     (pops-any S from n l ls is (λ k e. unheeded k l (subst (λ z. S.channel z (Agent n) ≡ l ∷ ls) e is) waits) h)) (λ b. tt)
   where
     -- it has a term

@@ -1,12 +1,12 @@
 -- What follows from the history alone: members, and that decided words form a chain.
-use Rattle.std.proofs.Common.{◌≡◌, ◌≤◌, true, false, List, [], ◌∷◌, sym, subst, ap, ◌∙◌, ◌⊎◌, inl, inr, ◌==◌, arith}
+use Rattle.std.proofs.Common.{◌≡◌, ◌<◌, ◌≤◌, true, false, List, [], ◌∷◌, sym, subst, ap, ◌∙◌, ◌⊎◌, inl, inr, ◌==◌, arith}
 use Rattle.std.proofs.lemmas.Bool.{cases_Bool}
 use Rattle.std.specs.Prelude.{ℕ, Some}
 use Rattle.std.specs.List.{list_any}
 use Rattle.volt_wire.specs.Word.{Membership}
 use Rattle.cluster_model.specs.Words.{is_in, term_of, start_of, admits, with_admitted}
 use Rattle.cluster_steps.specs.Lists.{In}
-use Rattle.word_laws.specs.Histories.{State, Within, Alike, Comparable, Admitted, IsRunning, names, Recorded, GoodWord, Falls, HistoryOk}
+use Rattle.word_laws.specs.Histories.{State, Within, Alike, Comparable, Admitted, IsRunning, names, Recorded, GoodWord, Falls, AdmittedOk, HistoryOk}
 use Rattle.cluster_steps.proofs.Lists.{not-both, all-at}
 use Rattle.word_laws.proofs.Algebra.{HostsOwned, within-cases, within-refl, within-trans, names-first, names-admits, names-cases, names-within, admits-fresh, within-with_admitted-back, with_admitted-admits, alike-is, within-of-term}
 use Rattle.word_laws.proofs.Members.{start_of-named, start_of-greatest, initiator-member, best-within, least-elsewhere}
@@ -174,6 +174,60 @@ module _ (S : State) (H : HistoryOk S) where
       | inr q ↦ inl (names-admits C m (subst (λ z. admits C z ≡ true) x.same (H.nothing_between C c x.entry x.is_one p q)))
     ]
   ]
+
+  -- ---- who was admitted since
+
+  -- A start that a later word admitted, and this one didn't, was so at this word or a later one.
+  admitted-since : (v w : Membership) (s : ℕ) → In v S.history.decided → (x : Recorded S w s) → admits v s ≡ false → Within v x.entry.at
+  admitted-since v w s d x n = elim (H.chain v x.entry.at d (H.admitted_ok x.entry x.is_one).decided) [
+    | inl p ↦ p
+    | inr p ↦ elim (within-cases v x.entry.at) [
+      | inl q ↦ q
+      | inr q ↦ absurd (not-both (admits v s) (subst (λ z. admits v z ≡ true) x.same (H.nothing_between v d x.entry x.is_one p q)) n)
+    ]
+  ]
+
+  -- So it is above each start of this word that isn't lost in the later one.
+  pub above-before : (v w : Membership) → In v S.history.decided → In w S.history.decided → (s t : ℕ) → names v s ≡ true → is_in s w.lost ≡ false
+      → admits w t ≡ true → admits v t ≡ false → s < t
+  above-before v w dv dw s t n l y o = under x.same (ok.above (S.owner s) s (member-of x.entry.at s (at-good x.entry x.is_one) named unlost))
+    where
+      x : Recorded S w t
+      x = (H.decided_good w dw).recorded t y
+
+      ok : AdmittedOk S x.entry
+      ok = H.admitted_ok x.entry x.is_one
+
+      named : names x.entry.at s ≡ true
+      named = names-within v x.entry.at s (one-first v x.entry.at (H.decided_good v dv) (at-good x.entry x.is_one)) (admitted-since v w t dv x o) n
+
+      unlost : is_in s x.entry.at.lost ≡ false
+      unlost = elim (cases_Bool (is_in s x.entry.at.lost)) [
+        | inl e ↦ absurd (not-both (is_in s w.lost) (x.within.lost s e) l)
+        | inr e ↦ e
+      ]
+
+      under : x.entry.start ≡ t → s < x.entry.start → s < t
+      under e k = omega (arith, e, k)
+
+  -- So of two decided words, a member that only the later one names is above those of the earlier one that stay.
+  pub members-rise : (v w : Membership) → In v S.history.decided → In w S.history.decided
+      → (h s g t : ℕ) → start_of v h ≡ Some s → start_of w h ≡ Some s → start_of w g ≡ Some t → names v t ≡ false → s < t
+  members-rise v w dv dw h s g t vs ws wt n =
+      above-before v w dv dw s t (member-is v h s gv vs).0 (member-is w h s gw ws).1
+      (admits-fresh v w t (one-first v w gv gw) n (member-is w g t gw wt).0) (unnamed (cases_Bool (admits v t)))
+    where
+      gv : GoodWord S v
+      gv = H.decided_good v dv
+
+      gw : GoodWord S w
+      gw = H.decided_good w dw
+
+      unnamed : (admits v t ≡ true) ⊎ (admits v t ≡ false) → admits v t ≡ false
+      unnamed (inl e) = absurd (not-both (names v t) (names-admits v t e) n)
+      unnamed (inr e) = e
+
+  -- ---- the least word elsewhere
 
   -- The least decided word that isn't within V has V within it.
   module _ (V : Membership) (g : GoodWord S V) (all : (h s : ℕ) → start_of V h ≡ Some s → In V (S.history.said s)) (hv v : ℕ) (mv : start_of V hv ≡ Some v)

@@ -115,7 +115,7 @@ pub runs-taken : (E : Database) (D : Deployment) (n stamp : ℕ) (a : AgentState
 runs-taken E D n stamp a from l e = rw (e, agent_runs) refl
 
 pub runs-waits : (E : Database) (D : Deployment) (n stamp : ℕ) (a : AgentState) (from : Actor) (l : Letter) → arrival a.start (term_in a.decided) l ≡ Waits
-    → agent_runs E D n stamp a from l ≡ becomes (record a { waiting = a.waiting ++ record { from = from; letter = l } ∷ [] })
+    → agent_runs E D n stamp a from l ≡ becomes (record a { waiting = a.waiting ++ record { from = from; letter = record l { past = [] } } ∷ [] })
 runs-waits E D n stamp a from l e = rw (e, agent_runs) refl
 
 pub runs-refused : (E : Database) (D : Deployment) (n stamp : ℕ) (a : AgentState) (from : Actor) (l : Letter) → arrival a.start (term_in a.decided) l ≡ Refused

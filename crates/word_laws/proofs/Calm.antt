@@ -1,7 +1,7 @@
 -- What the handlers of an agent do that bring no word: one walk over them all, of which the laws take what they ask for. A handler
 -- that is changed, or a message that an agent says besides, is mended here.
-use Rattle.std.proofs.Common.{◌≡◌, ◌<◌, Bool, true, false, List, [], ◌∷◌, ◌++◌, refl, sym, subst, ap, ◌∙◌, ◌⊎◌, inl, inr, ◌==◌, arith}
-use Rattle.std.proofs.lemmas.Bool.{and_parts, eqb-true, ltb-true}
+use Rattle.std.proofs.Common.{◌≡◌, Bool, true, false, List, [], ◌∷◌, ◌++◌, refl, sym, subst, ap, ◌∙◌, ◌⊎◌, inl, inr, ◌==◌, arith}
+use Rattle.std.proofs.lemmas.Bool.{and_parts, eqb-true}
 use Rattle.std.proofs.lemmas.Bool.Decides.{nat_tests}
 use Rattle.std.specs.Prelude.{ℕ, ◌&&◌, if◌then◌else◌, nat_lt, Option, Some, None}
 use Rattle.std.specs.List.{AllByRecursion, list_all}
@@ -14,11 +14,20 @@ use Rattle.volt_wire.specs.declared.end.End.TheVariants as end
 use Rattle.volt_wire.specs.declared.message.Msg.{Msg}
 use Rattle.volt_wire.specs.declared.message.Msg.TheVariants as msg
 use Rattle.cluster_model.specs.Engine.{Database, CoordStep, Round, Finish}
-use Rattle.cluster_model.specs.Words.{Deployment, part_of_slot, slots_of_host, all_parts, with_number, is_in, term_of, same_word, initiator, leader, start_of_slot, is_member, part_down, with_admitted, is_some_of}
+use Rattle.cluster_model.specs.Words.{Deployment, parts, part_of_slot, slots_of_host, all_parts, with_number, is_in, term_of, same_word, members, initiator, leader, start_of_slot, is_member, part_down, with_admitted, is_some_of}
 use Rattle.cluster_model.specs.Letters.{Blocks, same, Letter, Turn, becomes, sending, ◌▸◌, open_letter, letter_to, letter_in, only}
-use Rattle.cluster_model.specs.AgentState.{AgentState, Phase, Off, Hears, Closes, Idle, Works, Work, Job, RunCall, TakeSnapshot, Queued, Job_, Admission, Heard, Initiating, answers_client, on_reply, without_call, Pending}
-use Rattle.cluster_model.specs.Initiator.{to_all_leaders, begins, admitting, works_queue, if_idle, queues, answers, no_work, with_work, with_phase, all_finished, open_told, rests, ends_job, goes_on, feeds, ends_round, gathers, on_frag_done, settles, on_finished, done_to, closes_open, first_number, hears, on_mp_state, to_leaders, to_leader}
-use Rattle.cluster_model.specs.Agent.{to_slot, to_partition, to_initiator, hands_on, unless_down, on_call, on_hello, asks_initiator, has_loaded, on_loaded, agent_handler, pends}
+use Rattle.cluster_model.specs.AgentState.{AgentState, Work, Initiating, answers_client, on_reply, without_call, Pending}
+use Rattle.cluster_model.specs.declared.initiating.Phase.{Phase}
+use Rattle.cluster_model.specs.declared.initiating.Phase.TheVariants.{Off, Hears, Closes, Idle, Works}
+use Rattle.cluster_model.specs.declared.initiating.Job.{Job}
+use Rattle.cluster_model.specs.declared.initiating.Job.TheVariants.{RunCall, TakeSnapshot}
+use Rattle.cluster_model.specs.declared.initiating.Queued.{Queued}
+use Rattle.cluster_model.specs.declared.initiating.Queued.TheVariants.{ToRun, Admission}
+use Rattle.cluster_model.specs.declared.initiating.Heard.{Heard}
+use Rattle.cluster_model.specs.declared.known.Known.{Known}
+use Rattle.cluster_model.specs.declared.known.Known.TheVariants.{IsNew, IsAnswered, IsPast}
+use Rattle.cluster_model.specs.Initiator.{to_all_leaders, begins, end_of, known_of, admitting, with_queue, works_known, works_queue, if_idle, queues, answers, no_work, with_work, with_phase, all_finished, open_told, rests, ends_job, goes_on, feeds, ends_round, gathers, on_frag_done, runs_again, settles, knows_told, on_finished, done_to, closes_open, first_number, hears, on_mp_state, to_leaders, to_leader}
+use Rattle.cluster_model.specs.Agent.{runner, request, asks, to_runner, hands_on, unless_down, on_call, on_hello, asks_initiator, has_loaded, on_loaded, agent_handler}
 use Rattle.cluster_steps.specs.Lists.{In}
 use Rattle.word_laws.specs.Histories.{IsOff}
 use Rattle.cluster_steps.proofs.Lists.{all-append, all-if, same-some, in-left, in-right, in-cases, all-one}
@@ -39,7 +48,7 @@ pub record AdmitsNow (a : AgentState) (came : List Queued) (own : Option Members
   pub same : same_word word decided ≡ true
   pub term_is : term_of word ≡ term
   pub becomes : own ≡ Some (with_admitted start host word)
-  pub above : a.start < start
+  pub above : list_all (λ m. nat_lt m.1 start) (members word) ≡ true
   pub works : IsOff a.initiating.phase → ⊥
 
 -- What the agent of host n, for which these sites have loaded, says to an actor: of words only its decided one, and to no site its
@@ -189,7 +198,7 @@ module _ (D : Deployment) (n : ℕ) (a0 : AgentState) (came : List Queued) (load
   all_leaders-say : (w : Option Membership) (m : Msg Blocks) → ((b : Actor) (term start : ℕ) → Says b (letter_in term start m))
       → (b : Actor) → AllByRecursion (Says b) (to_all_leaders D w m b)
   all_leaders-say None m p b = tt
-  all_leaders-say (Some w) m p b = leaders-say w (λ x. true) m p b
+  all_leaders-say (Some w) m p b = leaders-say w (λ x. nat_lt x (parts D)) m p b
 
   done_to-say : (w : Option Membership) (parts : List ℕ) (m : ℕ) (o : Outcome) (b : Actor) → AllByRecursion (Says b) (done_to D w parts m o b)
   done_to-say None parts m o b = tt
@@ -205,10 +214,17 @@ module _ (D : Deployment) (n : ℕ) (a0 : AgentState) (came : List Queued) (load
   on_reply-calm : (a : AgentState) (call : ℕ) (e : End) → At a → Is (on_reply D a call e)
   on_reply-calm a call e h = calm-if _ _ _ (stays a h) (answers_client-calm a call e _ h)
 
+  answers-calm : (a : AgentState) (job : Job) (e : Option End) → At a → Is (answers D n a job e)
+  answers-calm a job None h = stays a h
+  answers-calm a TakeSnapshot (Some e) h = stays a h
+  answers-calm a (RunCall call client host start body) (Some e) h =
+      calm-if (host == n && start == a.start) (on_reply D a call e) (sending a (only (Agent host) (letter_to start (msg.MpReply call e))))
+      (on_reply-calm a call e h) (says-one a (Agent host) (letter_to start (msg.MpReply call e)) (λ b q. tt) h)
+
   -- ---- the initiator's part
 
   begins-calm : (E : Database) (a : AgentState) (job : Job) → On → At a → Is (begins E D a job)
-  begins-calm E a (RunCall call host start body) on h =
+  begins-calm E a (RunCall call client host start body) on h =
       record { at = at-initiating a _ h h.queue (inr on); sends = all_leaders-say a.decided _ (λ b t k. tt) }
   begins-calm E a TakeSnapshot on h = record { at = at-initiating a _ h h.queue (inr on); sends = all_leaders-say a.decided _ (λ b t k. tt) }
 
@@ -227,12 +243,12 @@ module _ (D : Deployment) (n : ℕ) (a0 : AgentState) (came : List Queued) (load
       → On → In (Admission start host term) (a0.initiating.queue ++ came) → a.own ≡ own → a.decided ≡ decided → At a → At (admitting a own decided start host term)
   admitting-calm a None decided start host term on asked o d h = h
   admitting-calm a (Some own) None start host term on asked o d h = h
-  admitting-calm a (Some own) (Some decided) start host term on asked o d h = choice (same_word own decided && term_of own == term && nat_lt a.start start) refl
+  admitting-calm a (Some own) (Some decided) start host term on asked o d h = choice (same_word own decided && term_of own == term && list_all (λ m. nat_lt m.1 start) (members own)) refl
     where
-      choice : (c : Bool) → (same_word own decided && term_of own == term && nat_lt a.start start) ≡ c → At (if c then record a { own = Some (with_admitted start host own) } else a)
+      choice : (c : Bool) → (same_word own decided && term_of own == term && list_all (λ m. nat_lt m.1 start) (members own)) ≡ c → At (if c then record a { own = Some (with_admitted start host own) } else a)
       choice false e = h
       choice true e =
-          let both = and_parts (same_word own decided && term_of own == term) (nat_lt a.start start) e in
+          let both = and_parts (same_word own decided && term_of own == term) (list_all (λ m. nat_lt m.1 start) (members own)) e in
           let (like, at) = and_parts (same_word own decided) (term_of own == term) both.0 in
           record {
             start = h.start;
@@ -253,25 +269,32 @@ module _ (D : Deployment) (n : ℕ) (a0 : AgentState) (came : List Queued) (load
               same = like;
               term_is = eqb-true (term_of own) term at;
               becomes = refl;
-              above = subst (λ x. x < start) h.start (ltb-true a.start start both.1);
+              above = both.1;
               works = on;
             });
             queue = h.queue;
             phase = h.phase;
           }
 
+  -- a job of the queue, and what goes on behind it
+  works_known-calm : (E : Database) (a : AgentState) (job : Job) (later : List Queued) (k : Known) (goes_on : AgentState → Turn AgentState)
+      → On → FromFirst later → ((b : AgentState) → At b → Is (goes_on b)) → At a → Is (works_known E D n a job later k goes_on)
+  works_known-calm E a job later IsNew goes_on on from more h = begins-calm E (with_queue a later) job on (at-initiating a (with_queue a later).initiating h from h.phase)
+  works_known-calm E a job later (IsAnswered e) goes_on on from more h =
+      then-calm (answers D n a job (Some e)) goes_on (answers-calm a job (Some e) h) (λ k. more (answers D n a job (Some e)).state k)
+  works_known-calm E a job later IsPast goes_on on from more h = more a h
+
   -- the queue of an initiator, of which it may admit a start
-  works_queue-calm : (E : Database) (a : AgentState) (q : List Queued) → On → FromFirst q → At a → Is (works_queue E D a q)
-  works_queue-calm E a [] on from h =
-      stays (record a { initiating = record a.initiating { queue = [] } }) (at-initiating a (record a.initiating { queue = [] }) h (λ j k term i. elim i [ ]) h.phase)
-  works_queue-calm E a (Job_ job ∷ later) on from h =
-      begins-calm E (record a { initiating = record a.initiating { queue = later } }) job on
-      (at-initiating a (record a.initiating { queue = later }) h (λ j k term i. from j k term (inr i)) h.phase)
+  works_queue-calm : (E : Database) (a : AgentState) (q : List Queued) → On → FromFirst q → At a → Is (works_queue E D n a q)
+  works_queue-calm E a [] on from h = stays (with_queue a []) (at-initiating a (with_queue a []).initiating h (λ j k term i. elim i [ ]) h.phase)
+  works_queue-calm E a (ToRun job ∷ later) on from h =
+      let rest : FromFirst later = λ j k term i. from j k term (inr i) in
+      works_known-calm E a job later (known_of job a.initiating.replies) (λ b. works_queue E D n b later) on rest (λ b. works_queue-calm E b later on rest) h
   works_queue-calm E a (Admission start host term ∷ later) on from h =
       works_queue-calm E (admitting a a.own a.decided start host term) later on (λ j k term i. from j k term (inr i))
       (admitting-calm a a.own a.decided start host term on (from start host term (inl refl)) refl refl h)
 
-  if_idle-calm : (E : Database) (a : AgentState) (phase : Phase) → IsOff phase ⊎ On → At a → Is (if_idle E D a phase)
+  if_idle-calm : (E : Database) (a : AgentState) (phase : Phase) → IsOff phase ⊎ On → At a → Is (if_idle E D n a phase)
   if_idle-calm E a Idle (inl off) h = absurd off
   if_idle-calm E a Idle (inr on) h = works_queue-calm E a a.initiating.queue on h.queue h
   if_idle-calm E a Off on h = stays a h
@@ -279,9 +302,9 @@ module _ (D : Deployment) (n : ℕ) (a0 : AgentState) (came : List Queued) (load
   if_idle-calm E a (Closes m parts finished) on h = stays a h
   if_idle-calm E a Works on h = stays a h
 
-  queues-calm : (E : Database) (a : AgentState) (q : Queued) → FromFirst (q ∷ []) → At a → Is (queues E D a q)
+  queues-calm : (E : Database) (a : AgentState) (q : Queued) → FromFirst (q ∷ []) → At a → Is (queues E D n a q)
   queues-calm E a q from h =
-      let b = record a { initiating = record a.initiating { queue = a.initiating.queue ++ q ∷ [] } } in
+      let b = with_queue a (a.initiating.queue ++ q ∷ []) in
       if_idle-calm E b b.initiating.phase h.phase
       (at-initiating a b.initiating h
       (λ j k term i. elim (in-cases (Admission j k term) a.initiating.queue (q ∷ []) i) [
@@ -290,22 +313,15 @@ module _ (D : Deployment) (n : ℕ) (a0 : AgentState) (came : List Queued) (load
       ]) h.phase)
 
   -- a job is no admission
-  job-none : (job : Job) → FromFirst (Job_ job ∷ [])
+  job-none : (job : Job) → FromFirst (ToRun job ∷ [])
   job-none job j h term (inl e) = absurd (cc)
   job-none job j h term (inr i) = elim i [ ]
 
-  answers-calm : (a : AgentState) (job : Job) (e : Option End) → At a → Is (answers D n a job e)
-  answers-calm a job None h = stays a h
-  answers-calm a TakeSnapshot (Some e) h = stays a h
-  answers-calm a (RunCall call host start body) (Some e) h =
-      calm-if (host == n && start == a.start) (on_reply D a call e) (sending a (only (Agent host) (letter_to start (msg.MpReply call e))))
-      (on_reply-calm a call e h) (says-one a (Agent host) (letter_to start (msg.MpReply call e)) (λ b q. tt) h)
-
-  rests-calm : (E : Database) (a : AgentState) → On → At a → Is (rests E D a)
+  rests-calm : (E : Database) (a : AgentState) → On → At a → Is (rests E D n a)
   rests-calm E a on h = works_queue-calm E (no_work a) a.initiating.queue on h.queue (at-initiating a (no_work a).initiating h h.queue (inr on))
 
   ends_job-calm : (E : Database) (a : AgentState) (job : Job) (e : Option End) → On → At a → Is (ends_job E D n a job e)
-  ends_job-calm E a job e on h = then-calm (answers D n a job e) (rests E D) (answers-calm a job e h) (λ k. rests-calm E (answers D n a job e).state on k)
+  ends_job-calm E a job e on h = then-calm (answers D n a job e) (rests E D n) (answers-calm a job e h) (λ k. rests-calm E (answers D n a job e).state on k)
 
   work-at : (a : AgentState) (w : Work) → On → At a → At (with_work a w)
   work-at a w on h = at-initiating a (with_work a w).initiating h h.queue (inr on)
@@ -315,14 +331,15 @@ module _ (D : Deployment) (n : ℕ) (a0 : AgentState) (came : List Queued) (load
 
   goes_on-calm : (stamp : ℕ) (a : AgentState) (w : Work) (next : CoordStep) → On → At a → Is (goes_on D stamp a w next)
   goes_on-calm stamp a w (Round body) on h = record { at = work-at a _ on h; sends = all_leaders-say a.decided _ (λ b t k. tt) }
-  goes_on-calm stamp a w (Finish keep reply) on h = record { at = work-at a _ on h; sends = all_leaders-say a.decided _ (λ b t k. tt) }
+  goes_on-calm stamp a w (Finish keep reply) on h =
+      record { at = at-initiating a (goes_on D stamp a w (Finish keep reply)).state.initiating h h.queue (inr on); sends = all_leaders-say a.decided _ (λ b t k. tt) }
 
   feeds-calm : (E : Database) (stamp : ℕ) (a : AgentState) (w : Work) (body : List ℕ) (asked : CoordStep) → On → At a → Is (feeds E D stamp a w body asked)
   feeds-calm E stamp a w body (Finish keep reply) on h = goes_on-calm stamp a w (Finish keep reply) on h
   feeds-calm E stamp a w body (Round asked) on h = goes_on-calm stamp a _ _ on h
 
   ends_round-calm : (E : Database) (stamp : ℕ) (a : AgentState) (w : Work) (job : Job) → On → At a → Is (ends_round E D stamp a w job)
-  ends_round-calm E stamp a w (RunCall call host start body) on h = feeds-calm E stamp a w body (E.asks body w.fed) on h
+  ends_round-calm E stamp a w (RunCall call client host start body) on h = feeds-calm E stamp a w body (E.asks body w.fed) on h
   ends_round-calm E stamp a w TakeSnapshot on h = stays a h
 
   gathers-calm : (E : Database) (stamp : ℕ) (a : AgentState) (w : Work) → On → At a → Is (gathers E D stamp a w)
@@ -338,14 +355,19 @@ module _ (D : Deployment) (n : ℕ) (a0 : AgentState) (came : List Queued) (load
   on_frag_done-calm E stamp a (Closes c parts finished) work p m round partial on h = stays a h
   on_frag_done-calm E stamp a Idle work p m round partial on h = stays a h
 
+  runs_again-calm : (E : Database) (a : AgentState) (job : Job) (k : Known) → On → At a → Is (runs_again E D n a job k)
+  runs_again-calm E a job IsNew on h = begins-calm E a job on h
+  runs_again-calm E a job (IsAnswered e) on h = ends_job-calm E a job (Some e) on h
+  runs_again-calm E a job IsPast on h = ends_job-calm E a job None on h
+
   settles-calm : (E : Database) (a : AgentState) (work : Option Work) → On → At a → Is (settles E D n a work)
   settles-calm E a None on h = rests-calm E a on h
   settles-calm E a (Some w) on h = elim w.decision as (λ x. Is (elim x as (λ _. Turn AgentState) [
-    | None ↦ begins E D a w.job
-    | Some d ↦ ends_job E D n a w.job d.end
+    | None ↦ runs_again E D n a w.job (known_of w.job a.initiating.replies)
+    | Some o ↦ ends_job E D n a w.job (end_of o)
   ])) [
-    | None ↦ begins-calm E a w.job on h
-    | Some d ↦ ends_job-calm E a w.job d.end on h
+    | None ↦ runs_again-calm E a w.job (known_of w.job a.initiating.replies) on h
+    | Some o ↦ ends_job-calm E a w.job (end_of o) on h
   ]
 
   on_finished-calm : (E : Database) (a : AgentState) (phase : Phase) (work : Option Work) (p m : ℕ) → IsOff phase ⊎ On → At a → Is (on_finished E D n a phase work p m)
@@ -355,13 +377,13 @@ module _ (D : Deployment) (n : ℕ) (a0 : AgentState) (came : List Queued) (load
       let k = work-at a done on h in
       elim w.decision as (λ x. Is (elim x as (λ _. Turn AgentState) [
         | None ↦ becomes a
-        | Some d ↦
+        | Some o ↦
             if w.transaction == m
-            then (if all_finished (all_parts D) done.finished then ends_job E D n (with_work a done) w.job d.end else becomes (with_work a done))
+            then (if all_finished (all_parts D) done.finished then ends_job E D n (with_work a done) w.job (end_of o) else becomes (with_work a done))
             else becomes a
       ])) [
         | None ↦ stays a h
-        | Some d ↦ calm-if _ _ _ (calm-if _ _ _ (ends_job-calm E (with_work a done) w.job d.end on k) (stays (with_work a done) k)) (stays a h)
+        | Some o ↦ calm-if _ _ _ (calm-if _ _ _ (ends_job-calm E (with_work a done) w.job (end_of o) on k) (stays (with_work a done) k)) (stays a h)
       ]
   on_finished-calm E a Works None p m on h = stays a h
   on_finished-calm E a (Closes closing parts finished) work p m (inl off) h = absurd off
@@ -378,37 +400,36 @@ module _ (D : Deployment) (n : ℕ) (a0 : AgentState) (came : List Queued) (load
 
   hears-calm : (E : Database) (a : AgentState) (told : List Heard) → On → At a → Is (hears E D n a told)
   hears-calm E a told on h = calm-if _ _ _
-      (closes_open-calm E (first_number a told) told (open_told told) on (at-if (a.initiating.next == 0) _ a (at-initiating a _ h h.queue h.phase) h))
+      (let b = first_number a told in
+      let k = at-if (a.initiating.next == 0) _ a (at-initiating a _ h h.queue h.phase) h in
+      closes_open-calm E (knows_told b told) told (open_told told) on (at-initiating b (knows_told b told).initiating k k.queue k.phase))
       (stays (with_phase a (Hears told)) (phase-at a (Hears told) on h))
 
-  on_mp_state-calm : (E : Database) (a : AgentState) (phase : Phase) (p m : ℕ) (is_open : Bool) (outcome : Option Outcome)
-      → IsOff phase ⊎ On → At a → Is (on_mp_state E D n a phase p m is_open outcome)
-  on_mp_state-calm E a (Hears told) p m is_open outcome (inl off) h = absurd off
-  on_mp_state-calm E a (Hears told) p m is_open outcome (inr on) h = calm-if _ _ _ (stays a h) (hears-calm E a _ on h)
-  on_mp_state-calm E a Off p m is_open outcome on h = stays a h
-  on_mp_state-calm E a (Closes c parts finished) p m is_open outcome on h = stays a h
-  on_mp_state-calm E a Idle p m is_open outcome on h = stays a h
-  on_mp_state-calm E a Works p m is_open outcome on h = stays a h
+  on_mp_state-calm : (E : Database) (a : AgentState) (phase : Phase) (t : Heard) → IsOff phase ⊎ On → At a → Is (on_mp_state E D n a phase t)
+  on_mp_state-calm E a (Hears told) t (inl off) h = absurd off
+  on_mp_state-calm E a (Hears told) t (inr on) h = calm-if _ _ _ (stays a h) (hears-calm E a _ on h)
+  on_mp_state-calm E a Off t on h = stays a h
+  on_mp_state-calm E a (Closes c parts finished) t on h = stays a h
+  on_mp_state-calm E a Idle t on h = stays a h
+  on_mp_state-calm E a Works t on h = stays a h
 
   -- ---- calls
 
-  to_slot-calm : (a : AgentState) (call c : ℕ) (body : List ℕ) (slot : ℕ) (start : Option ℕ) → At a → Is (to_slot a call c body slot start)
-  to_slot-calm a call c body slot None h = stays a h
-  to_slot-calm a call c body slot (Some start) h =
-      says-one (pends a call c start) (Site slot) (letter_to start (msg.SpCall call a.start body)) (λ b q. tt) (at-pends a _ h)
+  -- a call that is asked for says no word
+  pub asks-say : (start : ℕ) (p : Pending) (to : Actor × ℕ) (b : Actor) → AllByRecursion (Says b) (asks start p to b)
+  asks-say start p to b = all-one (Says b) (same to.0 b) (letter_to to.1 (request start p p.part)) (λ q. plain p.part)
+    where
+      plain : (part : Option ℕ) → Says b (letter_to to.1 (request start p part))
+      plain None = tt
+      plain (Some part) = tt
 
-  to_partition-calm : (a : AgentState) (w : Membership) (call c : ℕ) (body : List ℕ) (slot : Option ℕ) → At a → Is (to_partition D a w call c body slot)
-  to_partition-calm a w call c body None h = stays a h
-  to_partition-calm a w call c body (Some slot) h = to_slot-calm a call c body slot (start_of_slot D w slot) h
-
-  to_initiator-calm : (a : AgentState) (call c : ℕ) (body : List ℕ) (first : Option (ℕ × ℕ)) → At a → Is (to_initiator a call c body first)
-  to_initiator-calm a call c body None h = stays a h
-  to_initiator-calm a call c body (Some first) h =
-      says-one (pends a call c first.1) (Agent first.0) (letter_to first.1 (msg.MpCall call a.start body)) (λ b q. tt) (at-pends a _ h)
+  to_runner-calm : (a : AgentState) (p : Pending) (to : Option (Actor × ℕ)) → At a → Is (to_runner a p to)
+  to_runner-calm a p None h = stays a h
+  to_runner-calm a p (Some to) h = record { at = at-pends a _ h; sends = asks-say a.start p to }
 
   hands_on-calm : (a : AgentState) (w : Membership) (c call : ℕ) (part : Option ℕ) (body : List ℕ) → At a → Is (hands_on D a w c call part body)
-  hands_on-calm a w c call (Some part) body h = to_partition-calm a w call c body (leader D w part) h
-  hands_on-calm a w c call None body h = to_initiator-calm a call c body (initiator w) h
+  hands_on-calm a w c call part body h =
+      to_runner-calm a (record { call = call; client = c; part = part; body = body; target = 0 }) (runner D w part) h
 
   unless_down-calm : (a : AgentState) (w : Membership) (c call : ℕ) (part : Option ℕ) (body : List ℕ) (down : Option ℕ) → At a → Is (unless_down D a w c call part body down)
   unless_down-calm a w c call part body (Some down) h = says-one a (Client c) (open_letter (msg.Answer call (end.Down down))) (λ b q. tt) h
@@ -501,7 +522,7 @@ module _ (E : Database) (D : Deployment) (n stamp : ℕ) (a : AgentState) where
     | msg.Word base lost admitted ↦ λ k. absurd (k tt)
     | msg.Hello start ↦ λ k. on_hello-calm D n a [] a.loaded a a.decided g start refl (at-first a [])
     | msg.Decided w ↦ λ k. absurd (k tt)
-    | msg.MpCall call start body ↦ λ k. let job = RunCall call g start body in queues-calm D n a [] a.loaded E a (Job_ job) (job-none D n a [] a.loaded job) (at-first a [])
+    | msg.MpCall call start client body ↦ λ k. let job = RunCall call client g start body in queues-calm D n a [] a.loaded E a (ToRun job) (job-none D n a [] a.loaded job) (at-first a [])
     | msg.MpReply call e ↦ λ k. on_reply-calm D n a [] a.loaded a call e (at-first a [])
     | msg.Admit start ↦ λ k. let came = Admission start g l.term ∷ [] in
         queues-calm D n a came a.loaded E a (Admission start g l.term) (λ j h term i. in-right (Admission j h term) a.initiating.queue came i) (at-first a came)
@@ -513,15 +534,15 @@ module _ (E : Database) (D : Deployment) (n stamp : ℕ) (a : AgentState) where
     | msg.Reply call start e ↦ on_reply-calm D n a [] a.loaded a call e h
     | msg.FragDone m round partial ↦ on_frag_done-calm D n a [] a.loaded E stamp a a.initiating.phase a.initiating.work (part_of_slot D s) m round partial h.phase h
     | msg.Finished m ↦ on_finished-calm D n a [] a.loaded E a a.initiating.phase a.initiating.work (part_of_slot D s) m h.phase h
-    | msg.MpState m is_open outcome ↦ on_mp_state-calm D n a [] a.loaded E a a.initiating.phase (part_of_slot D s) m is_open outcome h.phase h
+    | msg.MpState m is_open outcome replies ↦ on_mp_state-calm D n a [] a.loaded E a a.initiating.phase _ h.phase h
     | msg.Loaded start ↦ on_loaded-calm D n a s start
     | m ↦ stays D n a [] a.loaded a h
   ]
 
   from_director-calm : (l : Letter) → Calmly Director l
   from_director-calm l = let h = at-first a [] in elim l.body as (λ m. Calmly Director (record l { body = m })) [
-    | msg.Snap ↦ calm-if D n a [] a.loaded _ (queues E D a (Job_ TakeSnapshot)) (becomes a)
-        (queues-calm D n a [] a.loaded E a (Job_ TakeSnapshot) (job-none D n a [] a.loaded TakeSnapshot) h) (stays D n a [] a.loaded a h)
+    | msg.Snap ↦ calm-if D n a [] a.loaded _ (queues E D n a (ToRun TakeSnapshot)) (becomes a)
+        (queues-calm D n a [] a.loaded E a (ToRun TakeSnapshot) (job-none D n a [] a.loaded TakeSnapshot) h) (stays D n a [] a.loaded a h)
     | m ↦ stays D n a [] a.loaded a h
   ]
 

@@ -3,18 +3,20 @@ use Rattle.std.proofs.Common.{◌≡◌, true, false, sym, ◌∙◌, inl, inr}
 use Rattle.std.specs.Prelude.{ℕ, Some}
 use Rattle.volt_wire.specs.Word.{Membership}
 use Rattle.cluster_model.specs.Engine.{Database}
-use Rattle.cluster_model.specs.Words.{is_in, term_of, not_lost}
+use Rattle.cluster_model.specs.Words.{Deployment, is_in, term_of, not_lost}
 use Rattle.cluster_model.specs.World.{World, Input}
 use Rattle.cluster_model.specs.Runs.{Happening, Reached, RunsInEpoch, may_happen, renews}
 use Rattle.cluster_model.specs.Events.{step}
 use Rattle.cluster_model.proofs.Runs.{reached-kept, in-epoch-kept}
 use Rattle.cluster_steps.specs.Lists.{In}
 use Rattle.word_laws.specs.Histories.{State, Comparable, GoodWord, OwnOk, SaidBy, HistoryOk, names}
-use Rattle.word_laws.specs.Chain.{state_of, InEpoch, HasDecided, HasWord, OneStartPerHost}
+use Rattle.word_laws.specs.Chain.{state_of, InEpoch, HasDecided, HasWord, OneStartPerHost, MembersRise, KeepsInitiator, KeepsLeaders}
 use Rattle.cluster_steps.proofs.Lists.{some-here}
-use Rattle.word_laws.proofs.Members.{in-not_lost}
+use Rattle.word_laws.proofs.Members.{in-not_lost, member-start}
 use Rattle.word_laws.proofs.Moves.{Grows}
-use Rattle.word_laws.proofs.Agreement.{said-good, term-same, one-start, hosts-of}
+use Rattle.word_laws.proofs.Agreement.{said-good, term-same, one-start, hosts-of, members-rise}
+use Rattle.word_laws.proofs.Initiators.{initiator-lasts}
+use Rattle.word_laws.proofs.Leaders.{leader-lasts}
 use Rattle.word_laws.proofs.Worlds.{first-holds, step-holds, step-grows, grows-same, grows-then}
 
 -- Each world that is reached is in an epoch, of which all holds.
@@ -52,6 +54,31 @@ one-of-term w v o m n d e t =
     let H = o.later.holds.history in
     let S = state_of v o.later.owner o.later.history in
     term-same S H m n (H.decided_good m (o.grows.decided m (decided-in w o.earlier m d))) (H.decided_good n (decided-in v o.later n e)) (chained w v o m n d e) t
+
+-- ---- an earlier and a later word
+
+-- what is so of any two words that were decided in the history of the later world, is so of two of one epoch, either way round
+both-ways : (P : Membership → Membership → Type 0) (w v : World) (o : OfOneEpoch w v)
+    → ((m n : Membership) → In m o.later.history.decided → In n o.later.history.decided → P m n)
+    → (m n : Membership) → HasDecided w m → HasDecided v n → P m n × P n m
+both-ways P w v o f m n d e =
+    let i = o.grows.decided m (decided-in w o.earlier m d) in
+    let j = decided-in v o.later n e in
+    (f m n i j, f n m j i)
+
+-- Members rise by start as they were admitted.
+pub rising : (w v : World) → OfOneEpoch w v → (m n : Membership) → HasDecided w m → HasDecided v n → MembersRise m n × MembersRise n m
+rising w v o = both-ways MembersRise w v o (λ m n i j h s g t x y z u.
+    members-rise (state_of v o.later.owner o.later.history) o.later.holds.history m n i j h s g t (member-start m h s x) (member-start n h s y) (member-start n g t z) u)
+
+-- The initiator and the leaders stay until they are lost.
+pub initiator-kept : (w v : World) → OfOneEpoch w v → (m n : Membership) → HasDecided w m → HasDecided v n → KeepsInitiator m n × KeepsInitiator n m
+initiator-kept w v o = both-ways KeepsInitiator w v o (λ m n i j p h s e l.
+    initiator-lasts (state_of v o.later.owner o.later.history) o.later.holds.history m h s i e n j p l)
+
+pub leaders-kept : (w v : World) → OfOneEpoch w v → (D : Deployment) (m n : Membership) → HasDecided w m → HasDecided v n → KeepsLeaders D m n × KeepsLeaders D n m
+leaders-kept w v o D = both-ways (KeepsLeaders D) w v o (λ m n i j p part slot s e h l.
+    leader-lasts D part (state_of v o.later.owner o.later.history) o.later.holds.history m n i j p slot s e h l)
 
 -- ---- words of a world are good
 

@@ -1,17 +1,17 @@
 -- An agent that stops says Closed last.
 use Rattle.std.proofs.Common.{◌≡◌, Bool, true, false, List, [], ◌∷◌, ◌++◌, append-nil, append_assoc, refl, sym, subst, ap, ◌∙◌, ◌⊎◌, inl, inr, ◌==◌, arith}
-use Rattle.std.specs.Prelude.{ℕ, ◌&&◌, not, filter, take, if◌then◌else◌, nat_lt, Option, Some, None}
+use Rattle.std.specs.Prelude.{ℕ, ◌&&◌, not, take, if◌then◌else◌, nat_lt, Option, Some, None}
 use Rattle.volt_wire.specs.Word.{Membership}
 use Rattle.volt_wire.specs.declared.actor.Actor.{Actor}
 use Rattle.volt_wire.specs.declared.actor.Actor.TheVariants.{Director, Client, Agent, Site, Scanner}
 use Rattle.volt_wire.specs.declared.message.Msg.TheVariants as msg
 use Rattle.cluster_model.specs.Engine.{Database}
-use Rattle.cluster_model.specs.Words.{Deployment, is_host, is_in, term_of, term_in, admits}
+use Rattle.cluster_model.specs.Words.{Deployment, is_host, term_of, term_in, admits}
 use Rattle.cluster_model.specs.Letters.{Letter, Turn, becomes, ◌▸◌, open_letter, arrival, Taken, Refused, Waits, Waiting, of_term, above_term}
 use Rattle.cluster_model.specs.Laws.{EndsWith, left_by, start_in_letter, starts_in}
 use Rattle.cluster_model.specs.AgentState.{AgentState, new_agent, stops, stops_with_host}
 use Rattle.cluster_model.specs.Initiator.{on_decided_word}
-use Rattle.cluster_model.specs.Agent.{on_closed, on_word, on_decided, is_other_word, says, decides_word, agrees, agent_handler, handler_and_word, unless_stopped, takes_each, takes_waiting, agent_runs, agent_takes, takes_start, start_taken, start_after, agent_turn}
+use Rattle.cluster_model.specs.Agent.{on_closed, on_word, on_decided, is_passed_over, takes_word, asked_again, is_other_word, says, decides_word, agrees, agent_handler, handler_and_word, unless_stopped, takes_each, takes_waiting, agent_runs, agent_takes, takes_start, start_taken, start_after, agent_turn}
 use Rattle.cluster_model.specs.Environment.{Environment, NoFault, DiskFails, NoMemory, DisksShow}
 use Rattle.cluster_model.specs.World.{World, took, stamp_of}
 use Rattle.cluster_model.specs.Events.{delivered, allows, can, is_actor, is_some_letter, step}
@@ -82,14 +82,14 @@ after-other D h start t f s = record {
 }
 
 -- Decided is the one handler in which an agent may stop
+over-if : (D : Deployment) (h : ℕ) (a : AgentState) (t : Turn AgentState) (c : Bool) → t.state.start ≡ a.start → StaysOrCloses D h a.start (if c then stops_with_host D h a.start else t)
+over-if D h a t true same = inr (stops_with_host-over D h a.start)
+over-if D h a t false same = inl same
+
 on_decided-over : (D : Deployment) (h : ℕ) (a : AgentState) (decided taken : Option Membership) (w : Membership) → StaysOrCloses D h a.start (on_decided D h a decided taken w)
 on_decided-over D h a (Some decided) taken w = inl refl
-on_decided-over D h a None None w = inl refl
-on_decided-over D h a None (Some taken) w = over-if (nat_lt (term_of taken) (term_of w) && not (admits w a.start))
-  where
-    over-if : (c : Bool) → StaysOrCloses D h a.start (if c then stops_with_host D h a.start else becomes a)
-    over-if true = inr (stops_with_host-over D h a.start)
-    over-if false = inl refl
+on_decided-over D h a None None w = over-if D h a (takes_word D h a w) (is_passed_over a.start w) refl
+on_decided-over D h a None (Some taken) w = over-if D h a (becomes a) (nat_lt (term_of taken) (term_of w) && not (admits w a.start)) refl
 
 handler-over : (E : Database) (D : Deployment) (h stamp : ℕ) (a : AgentState) (from : Actor) (l : Letter) → StaysOrCloses D h a.start (agent_handler E D h stamp a from l)
 handler-over E D h stamp a (Agent g) l = elim l.body as (λ m. StaysOrCloses D h a.start (agent_handler E D h stamp a (Agent g) (record l { body = m }))) [
@@ -105,9 +105,9 @@ handler-over E D h stamp a (Scanner x) l = inl refl
 
 -- ---- what follows a handler
 
-says-start : (h : ℕ) (a : AgentState) (own : Option Membership) → (says h a own).state.start ≡ a.start
-says-start h a None = refl
-says-start h a (Some w) = refl
+says-start : (D : Deployment) (h : ℕ) (a : AgentState) (own : Option Membership) → (says D h a own).state.start ≡ a.start
+says-start D h a None = refl
+says-start D h a (Some w) = refl
 
 on_decided_word-start : (h : ℕ) (a : AgentState) → (on_decided_word h a).start ≡ a.start
 on_decided_word-start h a = kept-state a.start _ _ _ refl refl
@@ -115,13 +115,13 @@ on_decided_word-start h a = kept-state a.start _ _ _ refl refl
 decides_word-start : (D : Deployment) (h : ℕ) (a : AgentState) (own : Option Membership) → (decides_word D h a own).state.start ≡ a.start
 decides_word-start D h a None = refl
 decides_word-start D h a (Some w) =
-    on_decided_word-start h (record a { decided = Some w; pending = filter (λ p. not (is_in p.target w.lost)) a.pending })
+    on_decided_word-start h (record a { decided = Some w; pending = asked_again D w a.pending })
 
 agrees-start : (D : Deployment) (h : ℕ) (before : Option Membership) (a : AgentState) → (agrees D h before a).state.start ≡ a.start
 agrees-start D h before a =
-    let said = if is_other_word before a.own then says h a a.own else becomes a in
+    let said = if is_other_word before a.own then says D h a a.own else becomes a in
     kept-if said.state.start _ _ _ (decides_word-start D h said.state said.state.own) refl
-    ∙ kept-if a.start (is_other_word before a.own) (says h a a.own) (becomes a) (says-start h a a.own) refl
+    ∙ kept-if a.start (is_other_word before a.own) (says D h a a.own) (becomes a) (says-start D h a a.own) refl
 
 -- one that has stopped has no word to agree on
 agrees-nothing : (D : Deployment) (h : ℕ) (before : Option Membership)
@@ -185,7 +185,7 @@ taken-over E D h stamp a from l = elim (handler_and_word-over E D h stamp a from
 runs-over : (E : Database) (D : Deployment) (h stamp : ℕ) (a : AgentState) (from : Actor) (l : Letter) → StaysOrCloses D h a.start (agent_runs E D h stamp a from l)
 runs-over E D h stamp a from l = elim (arrival a.start (term_in a.decided) l) as (λ x. StaysOrCloses D h a.start (elim x as (λ _. Turn AgentState) [
   | Taken ↦ handler_and_word E D h stamp a from l ▸ takes_waiting E D h stamp
-  | Waits ↦ becomes (record a { waiting = a.waiting ++ record { from = from; letter = l } ∷ [] })
+  | Waits ↦ becomes (record a { waiting = a.waiting ++ record { from = from; letter = record l { past = [] } } ∷ [] })
   | Refused ↦ becomes a
 ])) [
   | Taken ↦ taken-over E D h stamp a from l

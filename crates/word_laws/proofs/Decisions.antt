@@ -17,7 +17,7 @@ use Rattle.word_laws.proofs.Algebra.{within-refl}
 use Rattle.word_laws.proofs.Moves.{after_agent, WordsLater}
 use Rattle.word_laws.proofs.Agreement.{agrees-with, between-said, running-member}
 use Rattle.word_laws.proofs.Laters.{good-later, admitted_ok-later}
-use Rattle.word_laws.proofs.Turns.{Decides}
+use Rattle.word_laws.proofs.Turns.{Decides, IsRequest, request-cases, DecidedOrRequest}
 use Rattle.word_laws.proofs.Steps.{later-after, agent-later, came-after}
 use Rattle.word_laws.proofs.Continues.{continues-holds}
 
@@ -27,7 +27,7 @@ module _ (S : State) (H : WordsHold S) (n : ℕ) (v : Membership) (a : AgentStat
     (up : 0 < agent_start S n) (own : (S.agents n).own ≡ Some v) (member : names v (agent_start S n) ≡ true)
     (others : (h r : ℕ) → start_of v h ≡ Some r → In v (S.history.said r))
     (d : Decides n (S.agents n) v a)
-    (sends : (g : ℕ) → AllByRecursion (λ l. l ≡ open_letter (msg.Decided v)) (out (Agent g))) where
+    (sends : (g : ℕ) → AllByRecursion (DecidedOrRequest v) (out (Agent g))) where
   abbrev G : History
   G = record S.history { decided = v ∷ S.history.decided }
 
@@ -97,15 +97,22 @@ module _ (S : State) (H : WordsHold S) (n : ℕ) (v : Membership) (a : AgentStat
 
   -- ---- channels
 
-  out-all : (P : Letter → Type 0) (g : ℕ) → P (open_letter (msg.Decided v)) → AllByRecursion P (out (Agent g))
-  out-all P g p = all-mono (λ l. l ≡ open_letter (msg.Decided v)) P (λ l e. subst P (sym e) p) (out (Agent g)) (sends g)
+  either : (P : Letter → Type 0) → P (open_letter (msg.Decided v)) → ((l : Letter) → IsRequest l → P l) → (l : Letter) → DecidedOrRequest v l → P l
+  either P p q l k = elim k [ inl e ↦ subst P (sym e) p | inr r ↦ q l r ]
 
-  in-order : (began : List ℕ) (ls : List Letter) → AllByRecursion (λ l. l ≡ open_letter (msg.Decided v)) ls → InOrder began ls
+  out-all : (P : Letter → Type 0) (g : ℕ) → P (open_letter (msg.Decided v)) → ((l : Letter) → IsRequest l → P l) → AllByRecursion P (out (Agent g))
+  out-all P g p q = all-mono (DecidedOrRequest v) P (either P p q) (out (Agent g)) (sends g)
+
+  in-order : (began : List ℕ) (ls : List Letter) → AllByRecursion (DecidedOrRequest v) ls → InOrder began ls
   in-order began [] k = tt
-  in-order began (l ∷ ls) k = (subst (λ z. elim z.body as (λ _. Type 0) [ msg.Admit j ↦ AllByRecursion (ClosesFrom began j) ls | _ ↦ Unit {0} ]) (sym k.0) tt, in-order began ls k.1)
+  in-order began (l ∷ ls) k = (
+    either (λ z. elim z.body as (λ _. Type 0) [ msg.Admit j ↦ AllByRecursion (ClosesFrom began j) ls | _ ↦ Unit {0} ]) tt
+        (request-cases _ (λ z call start client body. tt) (λ z call start client body. tt)) l k.0,
+    in-order began ls k.1,
+  )
 
   closes : (g j : ℕ) → AllByRecursion (ClosesFrom (S.history.began n) j) (out (Agent g))
-  closes g j = out-all (ClosesFrom (S.history.began n) j) g tt
+  closes g j = out-all (ClosesFrom (S.history.began n) j) g tt (request-cases _ (λ l call start client body. tt) (λ l call start client body. tt))
 
   -- ---- the agent
 
@@ -145,7 +152,7 @@ module _ (S : State) (H : WordsHold S) (n : ℕ) (v : Membership) (a : AgentStat
     took_word = λ r e. refl;
     admitted = λ h u none x i e. i;
     agent = this-agent;
-    letters = λ g. out-all (LetterOk T n g) g (refl, inl refl);
+    letters = λ g. out-all (LetterOk T n g) g (refl, inl refl) (request-cases (LetterOk T n g) (λ l call start client body. tt) (λ l call start client body. tt));
     order = λ g. in-order (S.history.began n) (out (Agent g)) (sends g);
     closes = closes;
     history = history;

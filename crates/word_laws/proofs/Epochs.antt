@@ -4,6 +4,7 @@ use Rattle.std.proofs.lemmas.Bool.{eqb-true, cases_Bool, cases_eq}
 use Rattle.std.proofs.lemmas.Bool.Decides.{nat_tests}
 use Rattle.std.specs.Prelude.{ℕ, ◌-◌, ◌||◌, not, nat_le, if◌then◌else◌, filter, fold, Option, Some, None}
 use Rattle.std.specs.List.{AllByRecursion, list_any, list_all}
+use Rattle.volt_base.specs.declared.entry.LastReply.{LastReply}
 use Rattle.volt_wire.specs.Word.{Membership}
 use Rattle.volt_wire.specs.declared.actor.Actor.{Actor}
 use Rattle.volt_wire.specs.declared.actor.Actor.TheVariants.{Director, Agent}
@@ -146,10 +147,10 @@ new_history D w start = record {
 
 -- What is so as it begins: hosts run with new starts, all others are stopped; what agents said is gone, and of starts older ones
 -- alone are under way.
-pub record EpochBegins (D : Deployment) (base start number next : ℕ) (agents : ℕ → AgentState) (channel : Actor → Actor → List Letter) (owner : ℕ → ℕ) : Type 0 where
+pub record EpochBegins (D : Deployment) (base start number next : ℕ) (replies : List LastReply) (agents : ℕ → AgentState) (channel : Actor → Actor → List Letter) (owner : ℕ → ℕ) : Type 0 where
   pub positive : 0 < start
   pub room : start + D.layout.hosts ≤ next
-  pub hosts : (h : ℕ) → is_host D h ≡ true → agents h ≡ member_agent (new_word D base start) number start h
+  pub hosts : (h : ℕ) → is_host D h ≡ true → agents h ≡ member_agent (new_word D base start) number replies start h
   pub others : (h : ℕ) → is_host D h ≡ false → agents h ≡ new_agent 0
   pub inert : (h g : ℕ) → channel (Agent h) (Agent g) ≡ []
   pub owned : (h : ℕ) → is_host D h ≡ true → owner (start + h) ≡ h
@@ -177,8 +178,8 @@ initiates-first start i e = rw e (grind (arith, nat_tests))
 
 -- ---- what holds as an epoch begins
 
-module _ (D : Deployment) (base start number next : ℕ) (agents : ℕ → AgentState) (channel : Actor → Actor → List Letter) (owner : ℕ → ℕ)
-    (b : EpochBegins D base start number next agents channel owner) where
+module _ (D : Deployment) (base start number next : ℕ) (replies : List LastReply) (agents : ℕ → AgentState) (channel : Actor → Actor → List Letter) (owner : ℕ → ℕ)
+    (b : EpochBegins D base start number next replies agents channel owner) where
   abbrev T : State
   T = epoch_state D base start next agents channel owner
 
@@ -305,15 +306,15 @@ module _ (D : Deployment) (base start number next : ℕ) (agents : ℕ → Agent
     rising = b.rising h;
   }
 
-  begins-or-off : (h : ℕ) → is_host D h ≡ true → IsOff (first_initiating h number).phase ⊎ (initiates h (member_agent W number start h) (Some W) ≡ true)
+  begins-or-off : (h : ℕ) → is_host D h ≡ true → IsOff (first_initiating h number replies).phase ⊎ (initiates h (member_agent W number replies start h) (Some W) ≡ true)
   begins-or-off zero q = inr (initiates-first start (initiator W) (initiator-first D base start q))
   begins-or-off (suc h) q = inl tt
 
-  queue-ok : (h : ℕ) → AllByRecursion (QueuedAdmissionOk T h) (first_initiating h number).queue
+  queue-ok : (h : ℕ) → AllByRecursion (QueuedAdmissionOk T h) (first_initiating h number replies).queue
   queue-ok zero = tt
   queue-ok (suc h) = tt
 
-  member-ok : (h : ℕ) → is_host D h ≡ true → AgentOk T h (member_agent W number start h)
+  member-ok : (h : ℕ) → is_host D h ≡ true → AgentOk T h (member_agent W number replies start h)
   member-ok h q =
       let n : names W (start + h) ≡ true = or-false (names_first (start + h)) ∙ (first-there D start h q) in
       record {
@@ -365,8 +366,8 @@ module _ (D : Deployment) (base start number next : ℕ) (agents : ℕ → Agent
 -- ---- the first epoch, and those that a recovery begins
 
 -- the agents as an epoch begins: hosts run with new starts, the others are as before
-abbrev pub epoch_agents : Deployment → ℕ → ℕ → ℕ → (ℕ → AgentState) → ℕ → AgentState
-epoch_agents D base start number agents h = if is_host D h then member_agent (new_word D base start) number start h else agents h
+abbrev pub epoch_agents : Deployment → ℕ → ℕ → ℕ → List LastReply → (ℕ → AgentState) → ℕ → AgentState
+epoch_agents D base start number replies agents h = if is_host D h then member_agent (new_word D base start) number replies start h else agents h
 
 -- the hosts of the starts that are drawn in order from this one on; those before it have their hosts as before
 abbrev pub new_owner : ℕ → (ℕ → ℕ) → ℕ → ℕ
@@ -382,14 +383,14 @@ new_owner-old : (start : ℕ) (owner : ℕ → ℕ) (s : ℕ) → s < start → 
 new_owner-old start owner s l = let e : nat_le start s ≡ false = grind (arith, nat_tests, l) in rw e
 
 -- The first world.
-pub boot-holds : (D : Deployment) (base number : ℕ)
-    → WordsHold (epoch_state D base 1 (D.layout.hosts + 1) (epoch_agents D base 1 number (λ h. new_agent 0)) (λ a b. []) (new_owner 1 (λ s. 0)))
-boot-holds D base number =
-    epoch-holds D base 1 number (D.layout.hosts + 1) (epoch_agents D base 1 number (λ h. new_agent 0)) (λ a b. []) (new_owner 1 (λ s. 0)) (record {
+pub boot-holds : (D : Deployment) (base number : ℕ) (replies : List LastReply)
+    → WordsHold (epoch_state D base 1 (D.layout.hosts + 1) (epoch_agents D base 1 number replies (λ h. new_agent 0)) (λ a b. []) (new_owner 1 (λ s. 0)))
+boot-holds D base number replies =
+    epoch-holds D base 1 number (D.layout.hosts + 1) replies (epoch_agents D base 1 number replies (λ h. new_agent 0)) (λ a b. []) (new_owner 1 (λ s. 0)) (record {
       positive = omega arith;
       room = omega arith;
-      hosts = λ h e. if-true (is_host D h) (member_agent (new_word D base 1) number 1 h) (new_agent 0) e;
-      others = λ h e. if-false (is_host D h) (member_agent (new_word D base 1) number 1 h) (new_agent 0) e;
+      hosts = λ h e. if-true (is_host D h) (member_agent (new_word D base 1) number replies 1 h) (new_agent 0) e;
+      others = λ h e. if-false (is_host D h) (member_agent (new_word D base 1) number replies 1 h) (new_agent 0) e;
       inert = λ h g. refl;
       owned = λ h e. new_owner-new 1 (λ s. 0) h;
       older = λ h. tt;
@@ -397,16 +398,16 @@ boot-holds D base number =
     })
 
 -- A recovery that works, where agents of others than hosts never ran.
-pub recovery-holds : (S : State) (base number : ℕ) → WordsHold S → ((h : ℕ) → is_host S.deployment h ≡ false → S.agents h ≡ new_agent 0)
-    → WordsHold (epoch_state S.deployment base S.next (S.next + S.deployment.layout.hosts) (epoch_agents S.deployment base S.next number S.agents)
+pub recovery-holds : (S : State) (base number : ℕ) (replies : List LastReply) → WordsHold S → ((h : ℕ) → is_host S.deployment h ≡ false → S.agents h ≡ new_agent 0)
+    → WordsHold (epoch_state S.deployment base S.next (S.next + S.deployment.layout.hosts) (epoch_agents S.deployment base S.next number replies S.agents)
     (new_channels S.deployment S.next S.channel) (new_owner S.next S.owner))
-recovery-holds S base number h others =
+recovery-holds S base number replies h others =
     let D = S.deployment in
-    epoch-holds D base S.next number (S.next + D.layout.hosts) (epoch_agents D base S.next number S.agents) (new_channels D S.next S.channel) (new_owner S.next S.owner) (record {
+    epoch-holds D base S.next number (S.next + D.layout.hosts) replies (epoch_agents D base S.next number replies S.agents) (new_channels D S.next S.channel) (new_owner S.next S.owner) (record {
       positive = h.some;
       room = omega arith;
-      hosts = λ g e. if-true (is_host D g) (member_agent (new_word D base S.next) number S.next g) (S.agents g) e;
-      others = λ g e. if-false (is_host D g) (member_agent (new_word D base S.next) number S.next g) (S.agents g) e ∙ others g e;
+      hosts = λ g e. if-true (is_host D g) (member_agent (new_word D base S.next) number replies S.next g) (S.agents g) e;
+      others = λ g e. if-false (is_host D g) (member_agent (new_word D base S.next) number replies S.next g) (S.agents g) e ∙ others g e;
       inert = λ f g. refl;
       owned = λ g e. new_owner-new S.next S.owner g;
       older = λ g. subst (λ ls. AllByRecursion (λ x. (new_owner S.next S.owner x ≡ g) × (0 < x) × (x < S.next)) (starts_in ls)) (sym (append-nil (S.channel Director (Agent g))))

@@ -2,24 +2,26 @@
 use Rattle.std.proofs.Common.{◌≡◌, ◌<◌, Bool, true, false, List, [], ◌∷◌, ◌++◌, append-nil, append_assoc, refl, sym, subst, ap, ◌∙◌, ◌⊎◌, inl, inr, ◌==◌, arith}
 use Rattle.std.proofs.lemmas.Bool.{cases_Bool, eqb-true}
 use Rattle.std.proofs.Math.Path.{fun_ext}
-use Rattle.std.specs.Prelude.{ℕ, ◌||◌, if◌then◌else◌, Option, Some, None, ◌&&◌, not, filter, is_none}
+use Rattle.std.specs.Prelude.{ℕ, ◌||◌, if◌then◌else◌, Option, Some, None, ◌&&◌, not, is_none}
 use Rattle.std.specs.List.{list_all, AllByRecursion}
 use Rattle.volt_wire.specs.Word.{Membership}
 use Rattle.volt_wire.specs.declared.actor.Actor.TheVariants.{Agent, Client, Site, Scanner, Director}
-use Rattle.cluster_model.specs.Words.{Deployment, start_of, is_member, members, initiator, with_admitted, is_slot_of, is_down, is_client, term_of, is_in}
+use Rattle.cluster_model.specs.Words.{Deployment, start_of, is_member, members, initiator, with_admitted, is_slot_of, is_down, is_client}
 use Rattle.cluster_model.specs.Letters.{same, Letter, Sends, Turn, becomes, ◌▸◌, letter_to, open_letter}
-use Rattle.cluster_model.specs.AgentState.{AgentState, Queued, Admission, new_agent, initiates}
-use Rattle.cluster_model.specs.Agent.{is_other_word, says, is_word, may_decide, decides_word, decided_sends, unknown_ends}
+use Rattle.cluster_model.specs.AgentState.{AgentState, new_agent, initiates}
+use Rattle.cluster_model.specs.declared.initiating.Queued.{Queued}
+use Rattle.cluster_model.specs.declared.initiating.Queued.TheVariants.{Admission}
+use Rattle.cluster_model.specs.Agent.{is_other_word, says, is_word, may_decide, decides_word, decided_sends, asks_again}
 use Rattle.cluster_model.specs.World.{set_at}
 use Rattle.cluster_steps.specs.Lists.{In, OnSome}
 use Rattle.word_laws.specs.Histories.{State, History, Admitted, names, agent_start, GoodWord, SaidBy, ClosesFrom, CameOk, QueuedAdmissionOk, OwnOk, WordsHold}
-use Rattle.cluster_steps.proofs.Lists.{all-mono, all-at, in-cases, some-here, not-both, eqb-same, same-some, set-same, all-append, all-from, all-if, all-map}
+use Rattle.cluster_steps.proofs.Lists.{all-mono, all-at, in-cases, some-here, not-both, eqb-same, same-some, set-same, all-append, all-from, all-if}
 use Rattle.word_laws.proofs.Algebra.{same_word-refl, same_word-is, with_admitted-admits, names-admits}
-use Rattle.word_laws.proofs.Members.{members-all, is_member-start, initiates-is}
+use Rattle.word_laws.proofs.Members.{members-all, members-below, is_member-start, initiates-is}
 use Rattle.word_laws.proofs.Moves.{Nobody, after_agent, WordsLater, Grows, ShownOk, TellsKnown}
 use Rattle.word_laws.proofs.Calm.{SaysNoWord, Calm, AdmitsNow}
 use Rattle.word_laws.proofs.Agreement.{member-is, said-good}
-use Rattle.word_laws.proofs.Turns.{Decides, tells, concludes, tells-same, tells-other, concludes-not, concludes-is, decides-state, decides-sends, may_decide-cases, is_other_word-equal}
+use Rattle.word_laws.proofs.Turns.{IsRequest, request-cases, asks_again-requests, Decides, tells, concludes, tells-same, tells-other, concludes-not, concludes-is, decides-state, decides-sends, may_decide-cases, is_other_word-equal}
 use Rattle.word_laws.proofs.Steps.{later-after, calm-holds, after-after, came-turn, plain-closes}
 use Rattle.word_laws.proofs.OwnWords.{said_more, said-both, said_to}
 use Rattle.word_laws.proofs.Decisions.{decides-holds}
@@ -28,7 +30,6 @@ use Rattle.cluster_steps.proofs.Channels.{sent-nothing}
 use Rattle.word_laws.proofs.Laters.{shown-later}
 use Rattle.volt_wire.specs.declared.actor.Actor.{Actor}
 use Rattle.volt_wire.specs.declared.message.Msg.TheVariants as msg
-use Rattle.volt_wire.specs.declared.end.End.TheVariants as end
 
 -- ---- turns, one behind the other
 
@@ -227,18 +228,27 @@ module _ {M : ℕ → ℕ → Type 0} (T : State) (H : WordsHold T) (n : ℕ) (D
       U : State
       U = after_agent T n (decides_word D n (T.agents n) (Some v)).state (decides_word D n (T.agents n) (Some v)).sends (record T.history { decided = v ∷ T.history.decided })
 
-      -- it shows the word to its sites; the clients get answers
-      shows : (b : Actor) → AllByRecursion (ShownOk U b) (decided_sends D n (T.agents n) v b)
-      shows (Site c) = all-if (ShownOk U (Site c)) (is_slot_of D n c && not (is_down D v)) (letter_to (T.agents n).start (msg.View v) ∷ []) [] (inl refl, tt) tt
-      shows (Client c) =
-          let opened = if is_none (T.agents n).decided then open_letter (msg.Opened (T.agents n).start) ∷ [] else [] in
-          all-if (ShownOk U (Client c)) (is_client D c) (opened ++ unknown_ends v (T.agents n).pending c) []
-          (all-append (ShownOk U (Client c)) opened (unknown_ends v (T.agents n).pending c) (all-if (ShownOk U (Client c)) (is_none (T.agents n).decided) _ [] (tt, tt) tt)
-          (all-map (ShownOk U (Client c)) (λ p. open_letter (msg.Answer p.call (end.Unknown p.target (term_of v)))) (λ p. tt)
-          (filter (λ p. p.client == c && is_in p.target v.lost) (T.agents n).pending))) tt
-      shows (Agent g) = all-from (ShownOk U (Agent g)) (decided_sends D n (T.agents n) v (Agent g)) (λ l i. tt)
-      shows Director = tt
-      shows (Scanner c) = tt
+      -- it shows the word to its sites
+      says-word_of : (b : Actor) → AllByRecursion (ShownOk U b) (decided_sends D n (T.agents n) v b)
+      says-word_of (Site c) = all-if (ShownOk U (Site c)) (is_slot_of D n c && not (is_down D v)) (letter_to (T.agents n).start (msg.View v) ∷ []) [] (inl refl, tt) tt
+      says-word_of (Client c) = all-if (ShownOk U (Client c)) (is_client D c && is_none (T.agents n).decided) (open_letter (msg.Opened (T.agents n).start) ∷ []) [] (tt, tt) tt
+      says-word_of (Agent g) = all-from (ShownOk U (Agent g)) (decided_sends D n (T.agents n) v (Agent g)) (λ l i. tt)
+      says-word_of Director = tt
+      says-word_of (Scanner c) = tt
+
+      -- of calls it tells nothing
+      requests-shown : (b : Actor) (l : Letter) → IsRequest l → ShownOk U b l
+      requests-shown (Agent g) l r = tt
+      requests-shown Director l r = request-cases (TellsKnown U) (λ z call start client body. tt) (λ z call start client body. tt) l r
+      requests-shown (Client c) l r = request-cases (TellsKnown U) (λ z call start client body. tt) (λ z call start client body. tt) l r
+      requests-shown (Site c) l r = request-cases (TellsKnown U) (λ z call start client body. tt) (λ z call start client body. tt) l r
+      requests-shown (Scanner c) l r = request-cases (TellsKnown U) (λ z call start client body. tt) (λ z call start client body. tt) l r
+
+      shows : (b : Actor) → AllByRecursion (ShownOk U b) ((decides_word D n (T.agents n) (Some v)).sends b)
+      shows b =
+          let again = asks_again D (T.agents n).start v (T.agents n).pending b in
+          all-append (ShownOk U b) (decided_sends D n (T.agents n) v b) again (says-word_of b)
+          (all-mono IsRequest (ShownOk U b) (requests-shown b) again (asks_again-requests D (T.agents n).start v (T.agents n).pending b))
 
       d : Decides n (T.agents n) v (decides_word D n (T.agents n) (Some v)).state
       d = decides-state D n (T.agents n) v
@@ -308,23 +318,27 @@ calm-shown S T D n loaded h f b ls p = shown-later S T f b ls (all-mono (SaysNoW
     one (Site g) l p = told (Site g) l p
     one (Scanner g) l p = told (Scanner g) l p
 
-pub says-shown : (T : State) (n : ℕ) (x : AgentState) (v : Membership) (b : Actor) → AllByRecursion (ShownOk T b) ((says n x (Some v)).sends b)
-says-shown T n x v (Agent g) = all-from (ShownOk T (Agent g)) ((says n x (Some v)).sends (Agent g)) (λ l i. tt)
+pub says-shown : (T : State) (n : ℕ) (x : AgentState) (v : Membership) (b : Actor) → AllByRecursion (ShownOk T b) ((says T.deployment n x (Some v)).sends b)
+says-shown T n x v (Agent g) = all-from (ShownOk T (Agent g)) ((says T.deployment n x (Some v)).sends (Agent g)) (λ l i. tt)
 says-shown T n x v Director = tt
 says-shown T n x v (Client g) = tt
 says-shown T n x v (Site g) = tt
 says-shown T n x v (Scanner g) = tt
 
 -- it says the word that it has just got, which is another one
-pub says-word : (n : ℕ) (x : AgentState) (before : Option Membership) (v : Membership) → x.own ≡ Some v → is_other_word before (Some v) ≡ true → tells n before x ≡ says n x (Some v)
-says-word n x before v e o = tells-other n before x (ap (is_other_word before) e ∙ o) ∙ ap (says n x) e
+pub says-word : (D : Deployment) (n : ℕ) (x : AgentState) (before : Option Membership) (v : Membership) → x.own ≡ Some v → is_other_word before (Some v) ≡ true
+    → tells D n before x ≡ says D n x (Some v)
+says-word D n x before v e o = tells-other D n before x (ap (is_other_word before) e ∙ o) ∙ ap (says D n x) e
 
-module _ {M : ℕ → ℕ → Type 0} (P : State) (H : WordsHold P) (D : Deployment) (n : ℕ) (came : List Queued) (loaded : List ℕ) (t : Turn AgentState)
-    (up : 0 < agent_start P n) (c : Calm D n (P.agents n) came loaded t)
+module _ {M : ℕ → ℕ → Type 0} (P : State) (H : WordsHold P) (n : ℕ) (came : List Queued) (loaded : List ℕ) (t : Turn AgentState)
+    (up : 0 < agent_start P n) (c : Calm P.deployment n (P.agents n) came loaded t)
     (new : (j h term : ℕ) → In (Admission j h term) came → QueuedAdmissionOk P n (Admission j h term))
     (may : (j h term : ℕ) → In (Admission j h term) ((P.agents n).initiating.queue ++ came) → M j h) where
+  abbrev D : Deployment
+  D = P.deployment
+
   -- it admits a start
-  admits-handler : AdmitsNow (P.agents n) came t.state.own → WordsTurn M P n (t ▸ tells n (P.agents n).own)
+  admits-handler : AdmitsNow (P.agents n) came t.state.own → WordsTurn M P n (t ▸ tells P.deployment n (P.agents n).own)
   admits-handler m = record {
     history = G;
     goes = inl (ap (λ u. u.state.start) turn-is ∙ c.start, up);
@@ -345,7 +359,7 @@ module _ {M : ℕ → ℕ → Type 0} (P : State) (H : WordsHold P) (D : Deploym
     holds = subst (λ u. WordsHold (after_agent P n u.state u.sends G)) (sym turn-is)
         (subst WordsHold (ap (λ z. after_agent S1 n z out G) state-is
         ∙ after-after P n t0 t.state t.sends out P.history G)
-        (admits-holds S1 H1 n m.word m.decided m.start m.host m.term out up1 own1 decided1 m.same init came1 m.term_is over1 sends));
+        (admits-holds S1 H1 n m.word m.decided m.start m.host m.term out up1 own1 decided1 m.same init came1 m.term_is (members-below m.word m.start m.above) sends));
     shown = λ b. subst (λ u. AllByRecursion (ShownOk (after_agent P n u.state u.sends G) b) (u.sends b)) (sym turn-is)
         (all-append (ShownOk T b) (t.sends b) (out b) (calm-shown P T D n loaded H later b (t.sends b) (c.sends b)) (says-shown T n t.state v b));
   }
@@ -358,7 +372,7 @@ module _ {M : ℕ → ℕ → Type 0} (P : State) (H : WordsHold P) (D : Deploym
       v = with_admitted m.start m.host m.word
 
       out : Sends
-      out = (says n t.state (Some v)).sends
+      out = (says P.deployment n t.state (Some v)).sends
 
       c0 : Calm D n (P.agents n) came loaded (record { state = t0; sends = t.sends })
       c0 = record {
@@ -418,12 +432,9 @@ module _ {M : ℕ → ℕ → Type 0} (P : State) (H : WordsHold P) (D : Deploym
           (λ l p. plain-closes D n (P.agents n) loaded g (P.history.began n) j l p) (t.sends (Agent g)) (c.sends (Agent g)))
           n m.host m.term m.start came0
 
-      over1 : agent_start S1 n < m.start
-      over1 = subst (λ s. s < m.start) (sym start1) m.above
-
-      sends : (g : ℕ) → (says n t.state (Some v)).sends (Agent g)
-          ≡ said_to n (agent_start S1 n) v g
-      sends g = ap {A = ℕ} {B = List Letter} (λ z. said_to n z v g) (c.start ∙ sym start1)
+      sends : (g : ℕ) → (says P.deployment n t.state (Some v)).sends (Agent g)
+          ≡ said_to P.deployment n (agent_start S1 n) v g
+      sends g = ap {A = ℕ} {B = List Letter} (λ z. said_to P.deployment n z v g) (c.start ∙ sym start1)
 
       state-is : record (S1.agents n) { own = Some v } ≡ t.state
       state-is = ap {A = AgentState} {B = AgentState} (λ x. record x { own = Some v }) here
@@ -436,7 +447,7 @@ module _ {M : ℕ → ℕ → Type 0} (P : State) (H : WordsHold P) (D : Deploym
             let same = is_other_word-equal m.word v refl (ap (λ z. is_other_word z (Some v)) (sym m.is_own) ∙ o) in
             absurd (not-both (names m.word m.start)
             (subst (λ z. names z m.start ≡ true) (sym same) (names-admits v m.start (with_admitted-admits m.start m.host m.word)))
-            (fresh S1 H1 n m.word m.decided m.start m.host m.term out up1 own1 decided1 m.same init came1 m.term_is over1 sends))
+            (fresh S1 H1 n m.word m.decided m.start m.host m.term out up1 own1 decided1 m.same init came1 m.term_is (members-below m.word m.start m.above) sends))
       ]
 
       T : State
@@ -447,14 +458,14 @@ module _ {M : ℕ → ℕ → Type 0} (P : State) (H : WordsHold P) (D : Deploym
           (λ r u i. said-both (λ k us. (u : Membership) → In u (P.history.said k) → In u us) P.history.said (agent_start S1 n) v (λ y i. inr i) (λ k d y i. i) r u i)
           (λ s w e. e) (λ w i. i) (λ x i. inr i)
 
-      turn-is : t ▸ tells n (P.agents n).own ≡ record { state = t.state; sends = λ b. t.sends b ++ (says n t.state (Some v)).sends b }
-      turn-is = ap (λ u. record { state = u.state; sends = λ b. t.sends b ++ u.sends b }) (says-word n t.state (P.agents n).own v m.becomes other)
+      turn-is : t ▸ tells P.deployment n (P.agents n).own ≡ record { state = t.state; sends = λ b. t.sends b ++ (says P.deployment n t.state (Some v)).sends b }
+      turn-is = ap (λ u. record { state = u.state; sends = λ b. t.sends b ++ u.sends b }) (says-word P.deployment n t.state (P.agents n).own v m.becomes other)
 
   -- A turn that brings no word, and what the agent says then.
-  pub calm-handler : WordsTurn M P n (t ▸ tells n (P.agents n).own)
+  pub calm-handler : WordsTurn M P n (t ▸ tells P.deployment n (P.agents n).own)
   calm-handler = elim c.own [
-    | inl same ↦ subst (WordsTurn M P n) (sym (then-inert t (tells n (P.agents n).own)
-        (tells-same n (P.agents n).own t.state (ap (is_other_word (P.agents n).own) same ∙ other-self (P.agents n).own))))
+    | inl same ↦ subst (WordsTurn M P n) (sym (then-inert t (tells P.deployment n (P.agents n).own)
+        (tells-same P.deployment n (P.agents n).own t.state (ap (is_other_word (P.agents n).own) same ∙ other-self (P.agents n).own))))
         (handler-plain P n t (inl (c.start, up)) (calm-holds P D n came loaded t up c same new H)
         (λ b. calm-shown P (after_agent P n t.state t.sends P.history) D n loaded H
         (later-after P n t.state t.sends P.history (inl c.start) refl refl (λ s w i. i) (λ s w e. e) (λ w i. i) (λ x i. i)) b (t.sends b) (c.sends b)))

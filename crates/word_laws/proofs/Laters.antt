@@ -8,7 +8,8 @@ use Rattle.volt_wire.specs.declared.actor.Actor.TheVariants.{Director, Client, A
 use Rattle.volt_wire.specs.declared.message.Msg.TheVariants as msg
 use Rattle.cluster_model.specs.Words.{start_of, with_admitted}
 use Rattle.cluster_model.specs.Letters.{Letter}
-use Rattle.cluster_model.specs.AgentState.{Queued, Job_, Admission}
+use Rattle.cluster_model.specs.declared.initiating.Queued.{Queued}
+use Rattle.cluster_model.specs.declared.initiating.Queued.TheVariants.{ToRun, Admission}
 use Rattle.cluster_steps.specs.Lists.{In}
 use Rattle.word_laws.specs.Histories.{State, Admitted, Recorded, GoodWord, SaidBy, Unnamed, AsksAdmission, LetterOk, ClosesFrom, InOrder, CameOk, QueuedAdmissionOk, AgentWaitingFrom, OwnOk, AdmittedOk}
 use Rattle.cluster_steps.proofs.Lists.{all-mono}
@@ -117,7 +118,7 @@ waiting-later S T g came (Site i) l p = tt
 waiting-later S T g came (Scanner i) l p = tt
 
 pub queued-later : (S T : State) (g : ℕ) → ((h term j : ℕ) → CameOk S h g term j → CameOk T h g term j) → (q : Queued) → QueuedAdmissionOk S g q → QueuedAdmissionOk T g q
-queued-later S T g came (Job_ job) k = tt
+queued-later S T g came (ToRun job) k = tt
 queued-later S T g came (Admission j h term) k = came h term j k
 
 -- An Admit's start has begun, so the Closed behind it stay in order.

@@ -10,7 +10,7 @@ use Rattle.volt_wire.specs.declared.message.Msg.TheVariants as msg
 use Rattle.cluster_model.specs.Words.{is_in, is_member, admits, union, with_lost, is_slot_of}
 use Rattle.cluster_model.specs.Letters.{same, Letter, Turn, becomes, ◌▸◌, open_letter, letter_to}
 use Rattle.cluster_model.specs.AgentState.{AgentState, new_agent, stops, stops_with_host}
-use Rattle.cluster_model.specs.Agent.{is_other_word, says, on_closed, on_word, on_decided, takes_word}
+use Rattle.cluster_model.specs.Agent.{is_other_word, says, on_closed, on_word, on_decided, is_passed_over, takes_word}
 use Rattle.cluster_steps.specs.Lists.{In, OnSome}
 use Rattle.word_laws.specs.Histories.{State, Admitted, Within, names, agent_start, Gone, GoodWord, SaidBy, LetterOk, OwnOk, Telling, WordsHold, History}
 use Rattle.cluster_steps.proofs.Lists.{some-here, not-both, eqb-same, same-some, all-append, all-if, all-from}
@@ -98,7 +98,7 @@ module _ (S : State) (H : WordsHold S) (n : ℕ) (w v : Membership) (heard : ℕ
 
   -- a member says it
   pub own-handler : names v (agent_start S n) ≡ true → ((y : Admitted) → In y S.history.admitted → is_in y.by v.lost ≡ true → admits v y.start ≡ true)
-      → WordsTurn Nobody S n (says n speaker (Some v))
+      → WordsTurn Nobody S n (says S.deployment n speaker (Some v))
   own-handler member knows = record {
     history = record S.history { said = said_more S.history.said (agent_start S n) v };
     goes = inl (refl, up);
@@ -110,7 +110,7 @@ module _ (S : State) (H : WordsHold S) (n : ℕ) (w v : Membership) (heard : ℕ
     admitted = λ y i. i;
     admits = λ y i. inl i;
     by = λ y i. inl i;
-    holds = says-holds S H n w v heard (says n speaker (Some v)).sends S.history.admitted up own low member hears (λ g. refl) (λ y i. i) (λ y i. inl i)
+    holds = says-holds S H n w v heard (says S.deployment n speaker (Some v)).sends S.history.admitted up own low member hears (λ g. refl) (λ y i. i) (λ y i. inl i)
         (good-later S T later v good) (λ y i. admitted_ok-later S T later y (H.history.admitted_ok y i)) H.history.once H.history.one_each H.history.nothing_between knows;
     shown = says-shown T n speaker v;
   }
@@ -119,12 +119,12 @@ module _ (S : State) (H : WordsHold S) (n : ℕ) (w v : Membership) (heard : ℕ
       grows s u i = said-both (λ k us. (u : Membership) → In u (S.history.said k) → In u us) S.history.said (agent_start S n) v (λ y i. inr i) (λ k d y i. i) s u i
 
       T : State
-      T = after_agent S n speaker (says n speaker (Some v)).sends (record S.history { said = said_more S.history.said (agent_start S n) v })
+      T = after_agent S n speaker (says S.deployment n speaker (Some v)).sends (record S.history { said = said_more S.history.said (agent_start S n) v })
 
       later : WordsLater S T
-      later = later-after S n speaker (says n speaker (Some v)).sends (record S.history { said = said_more S.history.said (agent_start S n) v }) (inl refl) refl refl grows (λ s u e. e) (λ u i. i) (λ y i. i)
+      later = later-after S n speaker (says S.deployment n speaker (Some v)).sends (record S.history { said = said_more S.history.said (agent_start S n) v }) (inl refl) refl refl grows (λ s u e. e) (λ u i. i) (λ y i. i)
 
-  silent-words : names v (agent_start S n) ≡ false → (g : ℕ) → said_to n (agent_start S n) v g ≡ []
+  silent-words : names v (agent_start S n) ≡ false → (g : ℕ) → said_to S.deployment n (agent_start S n) v g ≡ []
   silent-words other g = elim (cases_Bool (is_member v n (agent_start S n))) [
     | inl m ↦ absurd (not-both (names v (agent_start S n)) (member-is S H.history v n (agent_start S n) good (is_member-start v n (agent_start S n) m)).0 other)
     | inr m ↦ rw m refl
@@ -132,10 +132,10 @@ module _ (S : State) (H : WordsHold S) (n : ℕ) (w v : Membership) (heard : ℕ
 
   -- a joiner says nothing
   pub silent-handler : names v (agent_start S n) ≡ false → ((y : Admitted) → In y S.history.admitted → names y.at (agent_start S n) ≡ true → is_in y.by v.lost ≡ true → admits v y.start ≡ true)
-      → WordsTurn Nobody S n (says n speaker (Some v))
-  silent-handler other knows = handler-plain S n (says n speaker (Some v)) (inl (refl, up))
-      (grows-holds S H n w v heard (says n speaker (Some v)).sends up own low other good hears knows (silent-words other))
-      (says-shown (after_agent S n speaker (says n speaker (Some v)).sends S.history) n speaker v)
+      → WordsTurn Nobody S n (says S.deployment n speaker (Some v))
+  silent-handler other knows = handler-plain S n (says S.deployment n speaker (Some v)) (inl (refl, up))
+      (grows-holds S H n w v heard (says S.deployment n speaker (Some v)).sends up own low other good hears knows (silent-words other))
+      (says-shown (after_agent S n speaker (says S.deployment n speaker (Some v)).sends S.history) n speaker v)
 
 -- ---- Closed
 
@@ -152,7 +152,7 @@ module _ (S : State) (H : WordsHold S) (n k o : ℕ) (l : Letter) (ls : List Let
 
   -- what the agent does with it, and says then
   abbrev closed-turn : Turn AgentState
-  closed-turn = becomes (on_closed (S.agents n) (S.agents n).own o) ▸ tells n (S.agents n).own
+  closed-turn = becomes (on_closed (S.agents n) (S.agents n).own o) ▸ tells S.deployment n (S.agents n).own
 
   -- what the initiator of an admission said to it came before
   closed-told : (w : Membership) → (S.agents n).own ≡ Some w → (y : Admitted) → In y S.history.admitted → names y.at (agent_start S n) ≡ true
@@ -196,14 +196,14 @@ module _ (S : State) (H : WordsHold S) (n k o : ℕ) (l : Letter) (ls : List Let
           (λ up. inl (with_lost o w, ap (λ a. a.own) (agent-there S n t.state t.sends r.history ∙ state), with_lost-in o w)))
 
       go : (z : Option Membership) → (S.agents n).own ≡ z → WordsTurn Nobody (agent_popped S (Agent k) n) n closed-turn
-      go None e = stays (ap (λ z. becomes (on_closed (S.agents n) z o) ▸ tells n z) e ∙ tells-same n None (S.agents n) (ap (is_other_word None) e))
+      go None e = stays (ap (λ z. becomes (on_closed (S.agents n) z o) ▸ tells S.deployment n z) e ∙ tells-same S.deployment n None (S.agents n) (ap (is_other_word None) e))
           (λ u. inr (λ w i. elim (cases_Bool (names w (agent_start S n))) [
             | inl m ↦ absurd (unnamed-not S (agent_start S n) w (said-good S H.history o w i) m ((H.agents n).alone up e).0)
             | inr m ↦ m
           ]))
       go (Some w) e = elim (cases_Bool (is_other_word (Some w) (Some (with_lost o w)))) [
-        | inl other ↦ grown w e (says n (record (S.agents n) { own = Some (with_lost o w) }) (Some (with_lost o w)))
-            (ap (λ z. becomes (on_closed (S.agents n) z o) ▸ tells n z) e ∙ says-word n (record (S.agents n) { own = Some (with_lost o w) }) (Some w) (with_lost o w) refl other) refl
+        | inl other ↦ grown w e (says S.deployment n (record (S.agents n) { own = Some (with_lost o w) }) (Some (with_lost o w)))
+            (ap (λ z. becomes (on_closed (S.agents n) z o) ▸ tells S.deployment n z) e ∙ says-word S.deployment n (record (S.agents n) { own = Some (with_lost o w) }) (Some w) (with_lost o w) refl other) refl
             (elim (cases_Bool (names (with_lost o w) (agent_start S n))) [
               | inl m ↦ own-handler S H n w (with_lost o w) (S.agents n).said up e (within-with_lost o w) (good w e) (H.agents n).heard m
                   (λ y i l. knows-told S H.history y i (agent_start S n) w (with_lost o w) (good w e) m (within-with_lost o w) (λ q. closed-told w e y i q l))
@@ -211,8 +211,8 @@ module _ (S : State) (H : WordsHold S) (n k o : ℕ) (l : Letter) (ls : List Let
                   (λ y i q l. (within-with_lost o w).admitted y.start (closed-told w e y i q l))
             ])
         | inr other ↦ let same = is_other_word-equal w (with_lost o w) refl other in
-            stays (ap (λ z. becomes (on_closed (S.agents n) z o) ▸ tells n z) e
-            ∙ tells-same n (Some w) (record (S.agents n) { own = Some (with_lost o w) }) other
+            stays (ap (λ z. becomes (on_closed (S.agents n) z o) ▸ tells S.deployment n z) e
+            ∙ tells-same S.deployment n (Some w) (record (S.agents n) { own = Some (with_lost o w) }) other
             ∙ ap (λ z. becomes (record (S.agents n) { own = z })) (ap Some (sym same) ∙ sym e))
             (λ u. inl (w, e, subst (λ z. is_in o z.lost ≡ true) (sym same) (with_lost-in o w)))
       ]
@@ -307,58 +307,58 @@ module _ (S : State) (H : WordsHold S) (n k base : ℕ) (lost : List ℕ) (admit
     base-same : (w.base == base) ≡ true
     base-same = subst (λ z. (w.base == z) ≡ true) (own-good.base ∙ sym letter.1) (eqb-same w.base)
 
-    handler-is : becomes (on_word (S.agents n) (Some w) k base lost admitted) ▸ tells n (Some w)
-        ≡ tells n (Some w) hearer
+    handler-is : becomes (on_word (S.agents n) (Some w) k base lost admitted) ▸ tells S.deployment n (Some w)
+        ≡ tells S.deployment n (Some w) hearer
     handler-is = rw base-same refl
 
-    tells-handler : WordsTurn Nobody S n (tells n (Some w) hearer)
+    tells-handler : WordsTurn Nobody S n (tells S.deployment n (Some w) hearer)
     tells-handler = elim (cases_Bool (is_other_word (Some w) (Some v))) [
-      | inl other ↦ subst (WordsTurn Nobody S n) (sym (says-word n hearer (Some w) v refl other)) (own-handler S H n w v heard up own low v-good hears member knows)
+      | inl other ↦ subst (WordsTurn Nobody S n) (sym (says-word S.deployment n hearer (Some w) v refl other)) (own-handler S H n w v heard up own low v-good hears member knows)
       | inr other ↦
           let same = is_other_word-equal w v refl other in
-          subst (WordsTurn Nobody S n) (sym (tells-same n (Some w) hearer other))
+          subst (WordsTurn Nobody S n) (sym (tells-same S.deployment n (Some w) hearer other))
           (subst (λ z. WordsTurn Nobody S n (becomes (record (S.agents n) { own = z; said = heard }))) (own ∙ ap Some same)
           (handler-plain S n (becomes (record (S.agents n) { said = heard })) (inl (refl, up)) (heard-holds S H n heard up hears) (λ b. tt)))
     ]
 
   -- what the agent does with it, and says then
   abbrev word-turn : Turn AgentState
-  word-turn = becomes (on_word (S.agents n) (S.agents n).own k base lost admitted) ▸ tells n (S.agents n).own
+  word-turn = becomes (on_word (S.agents n) (S.agents n).own k base lost admitted) ▸ tells S.deployment n (S.agents n).own
 
   pub word-handler : WordsTurn Nobody (agent_popped S (Agent k) n) n word-turn
   word-handler = go (S.agents n).own refl
     where
       go : (z : Option Membership) → (S.agents n).own ≡ z → WordsTurn Nobody (agent_popped S (Agent k) n) n word-turn
       go None e = subst (WordsTurn Nobody (agent_popped S (Agent k) n) n)
-          (sym (ap (λ z. becomes (on_word (S.agents n) z k base lost admitted) ▸ tells n z) e ∙ tells-same n None (S.agents n) (ap (is_other_word None) e)))
+          (sym (ap (λ z. becomes (on_word (S.agents n) z k base lost admitted) ▸ tells S.deployment n z) e ∙ tells-same S.deployment n None (S.agents n) (ap (is_other_word None) e)))
           (stay-handler (agent_popped S (Agent k) n) n (inl (refl, up)) (pops S k n (record l { body = msg.Word base lost admitted }) ls is (λ u m. inl e) H))
       go (Some w) e =
-          let t = tells n (Some w) (hearer w e) in
+          let t = tells S.deployment n (Some w) (hearer w e) in
           let r = tells-handler w e in
-          subst (WordsTurn Nobody (agent_popped S (Agent k) n) n) (sym (ap (λ z. becomes (on_word (S.agents n) z k base lost admitted) ▸ tells n z) e ∙ handler-is w e))
+          subst (WordsTurn Nobody (agent_popped S (Agent k) n) n) (sym (ap (λ z. becomes (on_word (S.agents n) z k base lost admitted) ▸ tells S.deployment n z) e ∙ handler-is w e))
           (pop-handler S n k (record l { body = msg.Word base lost admitted }) ls t is r
           (λ u m. inr (λ j q. (
             v w e,
             ap (λ a. a.own) (agent-there S n t.state t.sends r.history
-                ∙ tells-state n (Some w) (hearer w e)),
+                ∙ tells-state S.deployment n (Some w) (hearer w e)),
             (within-union-left (read w e) w).admitted j q,
           ))))
 
 -- ---- Decided
 
 module _ (P : State) (H : WordsHold P) (n : ℕ) (w : Membership) (up : 0 < agent_start P n) (decided : In w P.history.decided) where
-  tells-nothing : (n : ℕ) (before : Option Membership) → tells n before (new_agent 0) ≡ becomes (new_agent 0)
+  tells-nothing : (n : ℕ) (before : Option Membership) → tells P.deployment n before (new_agent 0) ≡ becomes (new_agent 0)
   tells-nothing n before = choice (is_other_word before None)
     where
-      choice : (b : Bool) → (if b then says n (new_agent 0) None else becomes (new_agent 0)) ≡ becomes (new_agent 0)
+      choice : (b : Bool) → (if b then says P.deployment n (new_agent 0) None else becomes (new_agent 0)) ≡ becomes (new_agent 0)
       choice true = refl
       choice false = refl
 
-  unchanged : WordsTurn Nobody P n (becomes (P.agents n) ▸ tells n (P.agents n).own)
-  unchanged = subst (WordsTurn Nobody P n) (sym (tells-same n (P.agents n).own (P.agents n) (other-self (P.agents n).own))) (stay-handler P n (inl (refl, up)) H)
+  unchanged : WordsTurn Nobody P n (becomes (P.agents n) ▸ tells P.deployment n (P.agents n).own)
+  unchanged = subst (WordsTurn Nobody P n) (sym (tells-same P.deployment n (P.agents n).own (P.agents n) (other-self (P.agents n).own))) (stay-handler P n (inl (refl, up)) H)
 
-  stops-then : WordsTurn Nobody P n (stops_with_host P.deployment n (agent_start P n) ▸ tells n (P.agents n).own)
-  stops-then = subst (WordsTurn Nobody P n) (sym (then-inert (stops_with_host P.deployment n (agent_start P n)) (tells n (P.agents n).own) (tells-nothing n (P.agents n).own)))
+  stops-then : WordsTurn Nobody P n (stops_with_host P.deployment n (agent_start P n) ▸ tells P.deployment n (P.agents n).own)
+  stops-then = subst (WordsTurn Nobody P n) (sym (then-inert (stops_with_host P.deployment n (agent_start P n)) (tells P.deployment n (P.agents n).own) (tells-nothing n (P.agents n).own)))
       (stop-handler P n (stops_with_host P.deployment n (agent_start P n)) H up refl (λ g. stops_with_host-closed P.deployment n (agent_start P n) g)
       (stops_with_host-say P.deployment n (agent_start P n)))
 
@@ -366,7 +366,7 @@ module _ (P : State) (H : WordsHold P) (n : ℕ) (w : Membership) (up : 0 < agen
   joiner = record (P.agents n) { own = Some w; taken = Some w }
 
   -- a joiner takes its first word
-  takes : (P.agents n).own ≡ None → (P.agents n).taken ≡ None → WordsTurn Nobody P n (takes_word P.deployment n (P.agents n) w ▸ tells n (P.agents n).own)
+  takes : (P.agents n).own ≡ None → (P.agents n).taken ≡ None → WordsTurn Nobody P n (takes_word P.deployment n (P.agents n) w ▸ tells P.deployment n (P.agents n).own)
   takes own taken = record {
     history = record P.history { took = λ r. if r == agent_start P n then Some w else P.history.took r };
     goes = inl (ap (λ u. u.state.start) turn-is, up);
@@ -379,7 +379,7 @@ module _ (P : State) (H : WordsHold P) (n : ℕ) (w : Membership) (up : 0 < agen
     admits = λ x i. inl i;
     by = λ x i. inl i;
     holds = subst (λ u. WordsHold (after_agent P n u.state u.sends (record P.history { took = λ r. if r == agent_start P n then Some w else P.history.took r }))) (sym turn-is)
-        (takes_word-holds P H n w (λ b. (takes_word P.deployment n (P.agents n) w).sends b ++ (says n joiner (Some w)).sends b) up own taken decided silent);
+        (takes_word-holds P H n w (λ b. (takes_word P.deployment n (P.agents n) w).sends b ++ (says P.deployment n joiner (Some w)).sends b) up own taken decided silent);
     shown = λ b. subst (λ u. AllByRecursion (ShownOk (after_agent P n u.state u.sends G) b) (u.sends b)) (sym turn-is) (shows b);
   }
     where
@@ -387,10 +387,10 @@ module _ (P : State) (H : WordsHold P) (n : ℕ) (w : Membership) (up : 0 < agen
       G = record P.history { took = λ r. if r == agent_start P n then Some w else P.history.took r }
 
       T : State
-      T = after_agent P n joiner (λ b. (takes_word P.deployment n (P.agents n) w).sends b ++ (says n joiner (Some w)).sends b) G
+      T = after_agent P n joiner (λ b. (takes_word P.deployment n (P.agents n) w).sends b ++ (says P.deployment n joiner (Some w)).sends b) G
 
       -- it shows the word to its sites
-      shows : (b : Actor) → AllByRecursion (ShownOk T b) ((takes_word P.deployment n (P.agents n) w).sends b ++ (says n joiner (Some w)).sends b)
+      shows : (b : Actor) → AllByRecursion (ShownOk T b) ((takes_word P.deployment n (P.agents n) w).sends b ++ (says P.deployment n joiner (Some w)).sends b)
       shows (Site c) = all-append (ShownOk T (Site c)) (if is_slot_of P.deployment n c then open_letter (msg.Start (agent_start P n)) ∷ letter_to (agent_start P n) (msg.View w) ∷ [] else []) []
           (all-if (ShownOk T (Site c)) (is_slot_of P.deployment n c) _ [] (tt, (decided, tt)) tt) tt
       shows (Agent g) = all-from (ShownOk T (Agent g)) _ (λ l i. tt)
@@ -407,13 +407,13 @@ module _ (P : State) (H : WordsHold P) (n : ℕ) (w : Membership) (up : 0 < agen
         | inr m ↦ m
       ]
 
-      turn-is : takes_word P.deployment n (P.agents n) w ▸ tells n (P.agents n).own
+      turn-is : takes_word P.deployment n (P.agents n) w ▸ tells P.deployment n (P.agents n).own
           ≡ record {
             state = joiner;
-            sends = λ b. (takes_word P.deployment n (P.agents n) w).sends b ++ (says n joiner (Some w)).sends b;
+            sends = λ b. (takes_word P.deployment n (P.agents n) w).sends b ++ (says P.deployment n joiner (Some w)).sends b;
           }
       turn-is = ap (λ u. record { state = u.state; sends = λ b. (takes_word P.deployment n (P.agents n) w).sends b ++ u.sends b })
-          (says-word n joiner (P.agents n).own w refl (ap (λ z. is_other_word z (Some w)) own))
+          (says-word P.deployment n joiner (P.agents n).own w refl (ap (λ z. is_other_word z (Some w)) own))
 
       not-member : is_member w n (agent_start P n) ≡ false
       not-member = elim (cases_Bool (is_member w n (agent_start P n))) [
@@ -421,23 +421,30 @@ module _ (P : State) (H : WordsHold P) (n : ℕ) (w : Membership) (up : 0 < agen
         | inr m ↦ m
       ]
 
-      silent : (g : ℕ) → (takes_word P.deployment n (P.agents n) w).sends (Agent g) ++ (says n joiner (Some w)).sends (Agent g) ≡ []
+      silent : (g : ℕ) → (takes_word P.deployment n (P.agents n) w).sends (Agent g) ++ (says P.deployment n joiner (Some w)).sends (Agent g) ≡ []
       silent g = rw not-member refl
 
       grows : (s : ℕ) (u : Membership) → P.history.took s ≡ Some u → (if s == agent_start P n then Some w else P.history.took s) ≡ Some u
       grows = took-keeps P.history.took (agent_start P n) w ((H.agents n).untaken up taken)
 
-  pub decided-handler : WordsTurn Nobody P n (on_decided P.deployment n (P.agents n) (P.agents n).decided (P.agents n).taken w ▸ tells n (P.agents n).own)
+  -- a joiner that is passed over stops
+  unless-passed : (c : Bool) → WordsTurn Nobody P n (takes_word P.deployment n (P.agents n) w ▸ tells P.deployment n (P.agents n).own)
+      → WordsTurn Nobody P n ((if c then stops_with_host P.deployment n (agent_start P n) else takes_word P.deployment n (P.agents n) w) ▸ tells P.deployment n (P.agents n).own)
+  unless-passed true k = stops-then
+  unless-passed false k = k
+
+  pub decided-handler : WordsTurn Nobody P n (on_decided P.deployment n (P.agents n) (P.agents n).decided (P.agents n).taken w ▸ tells P.deployment n (P.agents n).own)
   decided-handler = go (P.agents n).decided (P.agents n).taken refl refl
     where
       go : (d t : Option Membership) → (P.agents n).decided ≡ d → (P.agents n).taken ≡ t
-          → WordsTurn Nobody P n (on_decided P.deployment n (P.agents n) (P.agents n).decided (P.agents n).taken w ▸ tells n (P.agents n).own)
-      go (Some d) t e f = subst (λ z. WordsTurn Nobody P n (on_decided P.deployment n (P.agents n) z (P.agents n).taken w ▸ tells n (P.agents n).own)) (sym e) unchanged
-      go None None e f = subst (λ z. WordsTurn Nobody P n (on_decided P.deployment n (P.agents n) z (P.agents n).taken w ▸ tells n (P.agents n).own)) (sym e)
-          (subst (λ z. WordsTurn Nobody P n (on_decided P.deployment n (P.agents n) None z w ▸ tells n (P.agents n).own)) (sym f) (takes ((H.agents n).joins e f) f))
-      go None (Some t) e f = subst (λ z. WordsTurn Nobody P n (on_decided P.deployment n (P.agents n) z (P.agents n).taken w ▸ tells n (P.agents n).own)) (sym e)
-          (subst (λ z. WordsTurn Nobody P n (on_decided P.deployment n (P.agents n) None z w ▸ tells n (P.agents n).own)) (sym f)
+          → WordsTurn Nobody P n (on_decided P.deployment n (P.agents n) (P.agents n).decided (P.agents n).taken w ▸ tells P.deployment n (P.agents n).own)
+      go (Some d) t e f = subst (λ z. WordsTurn Nobody P n (on_decided P.deployment n (P.agents n) z (P.agents n).taken w ▸ tells P.deployment n (P.agents n).own)) (sym e) unchanged
+      go None None e f = subst (λ z. WordsTurn Nobody P n (on_decided P.deployment n (P.agents n) z (P.agents n).taken w ▸ tells P.deployment n (P.agents n).own)) (sym e)
+          (subst (λ z. WordsTurn Nobody P n (on_decided P.deployment n (P.agents n) None z w ▸ tells P.deployment n (P.agents n).own)) (sym f)
+          (unless-passed (is_passed_over (agent_start P n) w) (takes ((H.agents n).joins e f) f)))
+      go None (Some t) e f = subst (λ z. WordsTurn Nobody P n (on_decided P.deployment n (P.agents n) z (P.agents n).taken w ▸ tells P.deployment n (P.agents n).own)) (sym e)
+          (subst (λ z. WordsTurn Nobody P n (on_decided P.deployment n (P.agents n) None z w ▸ tells P.deployment n (P.agents n).own)) (sym f)
           (elim (on_decided-joiner P.deployment n (P.agents n) t w) [
-            | inl s ↦ subst (λ z. WordsTurn Nobody P n (z ▸ tells n (P.agents n).own)) (sym s) stops-then
-            | inr b ↦ subst (λ z. WordsTurn Nobody P n (z ▸ tells n (P.agents n).own)) (sym b) unchanged
+            | inl s ↦ subst (λ z. WordsTurn Nobody P n (z ▸ tells P.deployment n (P.agents n).own)) (sym s) stops-then
+            | inr b ↦ subst (λ z. WordsTurn Nobody P n (z ▸ tells P.deployment n (P.agents n).own)) (sym b) unchanged
           ]))

@@ -3,6 +3,8 @@ pub mod Algebra
 pub mod Members
 pub mod Moves
 pub mod Agreement
+pub mod Initiators
+pub mod Leaders
 pub mod Laters
 pub mod Calm
 pub mod Closing

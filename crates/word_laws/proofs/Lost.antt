@@ -4,6 +4,7 @@ use Rattle.std.proofs.Common.{◌≡◌, ◌+◌, ◌<◌, ◌≤◌, Bool, true
 use Rattle.std.proofs.lemmas.Bool.{cases_Bool, and_parts}
 use Rattle.std.specs.Prelude.{ℕ, ◌&&◌, not, if◌then◌else◌, Option, Some, None}
 use Rattle.std.specs.List.{AllByRecursion}
+use Rattle.volt_base.specs.declared.entry.LastReply.{LastReply}
 use Rattle.volt_wire.specs.Word.{Membership}
 use Rattle.volt_wire.specs.declared.actor.Actor.{Actor}
 use Rattle.volt_wire.specs.declared.actor.Actor.TheVariants.{Director, Client, Agent, Site, Scanner}
@@ -20,7 +21,7 @@ use Rattle.cluster_model.specs.Director.{DirectorState, does, does_next}
 use Rattle.cluster_model.specs.Environment.{Environment, NoFault, DiskFails, NoMemory, DisksShow}
 use Rattle.cluster_model.specs.AgentState.{AgentState}
 use Rattle.cluster_model.specs.Agent.{agent_turn, agent_takes}
-use Rattle.cluster_model.specs.World.{World, Input, took, stamp_of, with_director, new_word, greatest_done, member_agent}
+use Rattle.cluster_model.specs.World.{World, Input, took, stamp_of, with_director, new_word, greatest_done, greatest_replies, member_agent}
 use Rattle.cluster_model.specs.Recover.{recovers, starts_anew, opens, new_base, new_log}
 use Rattle.cluster_model.specs.Events.{is_actor, is_some_letter, can, allows, delivered, may_do, happens, step}
 use Rattle.cluster_model.specs.Runs.{Happening, Reached, has_failed, may_happen}
@@ -159,7 +160,10 @@ module _ (E : Database) (w : World) (s : ℕ) (r : Retired w s) where
       number : ℕ
       number = greatest_done E (new_log E w shown) (parts w.deployment) + 1
 
-      begins : (g : ℕ) (c : Bool) → (if c then member_agent word number w.director.next_start g else w.agents g).start ≡ s → ⊥
+      replies : List LastReply
+      replies = greatest_replies E (new_log E w shown) (parts w.deployment)
+
+      begins : (g : ℕ) (c : Bool) → (if c then member_agent word number replies w.director.next_start g else w.agents g).start ≡ s → ⊥
       begins g true e = let b = r.below in absurd (omega (arith, b, e))
       begins g false e = r.not_run g e
 

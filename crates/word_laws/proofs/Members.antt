@@ -1,8 +1,8 @@
 -- Who is a member of a word, and words that are compared one by one.
-use Rattle.std.proofs.Common.{◌≡◌, ◌≤◌, max, Bool, true, false, List, [], ◌∷◌, ◌++◌, refl, sym, ap, subst, ◌∙◌, ◌⊎◌, inl, inr, ◌==◌, arith, true≢false}
-use Rattle.std.proofs.lemmas.Bool.{cond_both, cases_Bool, cases_lt, or_cases, and_parts, or_left, or_right, not_from_true, not_from_false, eqb-true, eqb-false, leb-true, le-leb, not-true}
+use Rattle.std.proofs.Common.{◌≡◌, ◌<◌, ◌≤◌, max, Bool, true, false, List, [], ◌∷◌, ◌++◌, refl, sym, ap, subst, ◌∙◌, ◌⊎◌, inl, inr, ◌==◌, arith, true≢false}
+use Rattle.std.proofs.lemmas.Bool.{cond_both, cases_Bool, cases_lt, or_cases, and_parts, or_left, or_right, not_from_true, not_from_false, eqb-true, eqb-false, leb-true, le-leb, ltb-true, not-true}
 use Rattle.std.proofs.lemmas.Option.{none-some}
-use Rattle.std.specs.Prelude.{ℕ, ◌||◌, not, fold, map, nat_le, Option, Some, None}
+use Rattle.std.specs.Prelude.{ℕ, ◌||◌, not, fold, map, nat_le, nat_lt, Option, Some, None}
 use Rattle.std.specs.List.{list_all}
 use Rattle.volt_wire.specs.Word.{Membership}
 use Rattle.partition_ring.specs.Placement.{greater_start}
@@ -97,8 +97,9 @@ found h r (m ∷ ms) i = cond_both (m.0 == h) (Some m.1) None (λ o. (s : ℕ) �
 abbrev greatest : List (ℕ × ℕ) → ℕ × ℕ → Bool
 greatest ms m = list_all (λ n. not (n.0 == m.0) || nat_le n.1 m.1) ms
 
-abbrev stays : Membership → ℕ × ℕ → Bool
-stays w m = not (is_in m.1 w.lost)
+-- whether a member's start isn't among the lost ones
+abbrev pub stays : List ℕ → ℕ × ℕ → Bool
+stays lost m = not (is_in m.1 lost)
 
 -- the hosts with which the word began, and those that it admitted
 abbrev all_named : Membership → List (ℕ × ℕ)
@@ -158,12 +159,12 @@ module _ (owner : ℕ → ℕ) (w : Membership) (fo : HostsOwned owner w.first) 
   -- who is there and not lost is named, not lost, and its host's
   pub in-not_lost : (h s : ℕ) → In (h, s) (not_lost w) → (names w s ≡ true) × (is_in s w.lost ≡ false) × (owner s ≡ h)
   in-not_lost h s i =
-      let f = in-filter (stays w) (h, s) (all_named w) i in
+      let f = in-filter (stays w.lost) (h, s) (all_named w) i in
       let n = in-named h s f.0 in
       (n.0, not-true (is_in s w.lost) f.1, n.1)
 
   not_lost-in : (s : ℕ) → names w s ≡ true → is_in s w.lost ≡ false → In (owner s, s) (not_lost w)
-  not_lost-in s e n = filter-in (stays w) (owner s, s) (all_named w) (named-in s e) (not_from_false (is_in s w.lost) n)
+  not_lost-in s e n = filter-in (stays w.lost) (owner s, s) (all_named w) (named-in s e) (not_from_false (is_in s w.lost) n)
 
   member-of-greatest : (s : ℕ) → names w s ≡ true → is_in s w.lost ≡ false
       → ((r : ℕ) → names w r ≡ true → owner r ≡ owner s → is_in r w.lost ≡ false → r ≤ s) → In (owner s, s) (members w)
@@ -187,6 +188,10 @@ start_of-greatest owner w s fo ao e n most = member-start w (owner s) s (member-
 -- a test that all members pass is passed by each
 pub members-all : (w : Membership) (p : ℕ × ℕ → Bool) (h s : ℕ) → list_all p (members w) ≡ true → start_of w h ≡ Some s → p (h, s) ≡ true
 members-all w p h s a e = list_all-at p (members w) (h, s) a (start-in-members w h s e)
+
+-- a start that is above all members is above each
+pub members-below : (w : Membership) (start : ℕ) → list_all (λ m. nat_lt m.1 start) (members w) ≡ true → (h s : ℕ) → start_of w h ≡ Some s → s < start
+members-below w start a h s e = ltb-true s start (members-all w (λ m. nat_lt m.1 start) h s a e)
 
 pub first-in : {A : Type 0} (x : A) (xs : List A) → first_of xs ≡ Some x → In x xs
 first-in x [] e = absurd (none-some x e)

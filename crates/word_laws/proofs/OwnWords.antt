@@ -6,7 +6,7 @@ use Rattle.std.specs.List.{AllByRecursion}
 use Rattle.volt_wire.specs.Word.{Membership}
 use Rattle.volt_wire.specs.declared.actor.Actor.TheVariants.{Agent}
 use Rattle.volt_wire.specs.declared.message.Msg.TheVariants as msg
-use Rattle.cluster_model.specs.Words.{is_in, start_of, is_member, admits}
+use Rattle.cluster_model.specs.Words.{Deployment, is_host, is_in, start_of, is_member, admits}
 use Rattle.cluster_model.specs.Letters.{Letter, Sends, letter_to}
 use Rattle.cluster_model.specs.AgentState.{AgentState}
 use Rattle.cluster_model.specs.Agent.{word_to}
@@ -26,8 +26,8 @@ use Rattle.word_laws.proofs.Continues.{Continues, starts-on, continues-agents, c
 -- ---- the word of a member, and what its agent says of it
 
 -- the message that says this word to host g
-abbrev pub said_to : ℕ → ℕ → Membership → ℕ → List Letter
-said_to n s v g = if is_member v n s && not (g == n) then word_to v (start_of v g) else []
+abbrev pub said_to : Deployment → ℕ → ℕ → Membership → ℕ → List Letter
+said_to D n s v g = if is_member v n s && is_host D g && not (g == n) then word_to v (start_of v g) else []
 
 word-letters : (P : Letter → Type 0) (v : Membership) (start : Option ℕ) → ((c : ℕ) → start ≡ Some c → P (letter_to c (msg.Word v.base v.lost v.admitted))) → AllByRecursion P (word_to v start)
 word-letters P v None f = tt
@@ -37,8 +37,8 @@ letters-if : (P : Letter → Type 0) (b : Bool) (xs : List Letter) → (b ≡ tr
 letters-if P true xs f = f refl
 letters-if P false xs f = tt
 
-said_to-all : (P : Letter → Type 0) (n s : ℕ) (v : Membership) (g : ℕ) → ((c : ℕ) → start_of v g ≡ Some c → P (letter_to c (msg.Word v.base v.lost v.admitted))) → AllByRecursion P (said_to n s v g)
-said_to-all P n s v g f = letters-if P (is_member v n s && not (g == n)) (word_to v (start_of v g)) (λ b. word-letters P v (start_of v g) f)
+said_to-all : (P : Letter → Type 0) (D : Deployment) (n s : ℕ) (v : Membership) (g : ℕ) → ((c : ℕ) → start_of v g ≡ Some c → P (letter_to c (msg.Word v.base v.lost v.admitted))) → AllByRecursion P (said_to D n s v g)
+said_to-all P D n s v g f = letters-if P (is_member v n s && is_host D g && not (g == n)) (word_to v (start_of v g)) (λ b. word-letters P v (start_of v g) f)
 
 -- ---- a member says its new word
 
@@ -66,7 +66,7 @@ said-both P said s v = set-both P said s (v ∷ said s)
 module _ (S : State) (H : WordsHold S) (n : ℕ) (w v : Membership) (heard : ℕ → Option Membership) (out : Sends) (A : List Admitted)
     (up : 0 < agent_start S n) (own : (S.agents n).own ≡ Some w) (low : Within w v) (member : names v (agent_start S n) ≡ true)
     (hears : (k : ℕ) → OnSome (SaidBy S k) (heard k))
-    (sends : (g : ℕ) → out (Agent g) ≡ said_to n (agent_start S n) v g)
+    (sends : (g : ℕ) → out (Agent g) ≡ said_to S.deployment n (agent_start S n) v g)
     (grows : (x : Admitted) → In x S.history.admitted → In x A)
     (new : (x : Admitted) → In x A → In x S.history.admitted ⊎ NewHere S n v x)
     (good : GoodWord (spoken S n v heard out A) v)
@@ -193,10 +193,10 @@ module _ (S : State) (H : WordsHold S) (n : ℕ) (w v : Membership) (heard : ℕ
       here = said-both (λ r us. r ≡ s → In v us) S.history.said s v (λ e. inl refl) (λ r d e. absurd (d e)) s refl
 
   out-all : (P : Letter → Type 0) (g : ℕ) → ((c : ℕ) → start_of v g ≡ Some c → P (letter_to c (msg.Word v.base v.lost v.admitted))) → AllByRecursion P (out (Agent g))
-  out-all P g f = subst (AllByRecursion P) (sym (sends g)) (said_to-all P n s v g f)
+  out-all P g f = subst (AllByRecursion P) (sym (sends g)) (said_to-all P S.deployment n s v g f)
 
   in-order : (began : List ℕ) (g : ℕ) → InOrder began (out (Agent g))
-  in-order began g = subst (InOrder began) (sym (sends g)) (if-order (is_member v n s && not (g == n)))
+  in-order began g = subst (InOrder began) (sym (sends g)) (if-order (is_member v n s && is_host S.deployment g && not (g == n)))
     where
       word-order : (start : Option ℕ) → InOrder began (word_to v start)
       word-order None = tt
@@ -317,15 +317,20 @@ module _ (S : State) (H : WordsHold S) (n : ℕ) (w v : Membership) (heard : ℕ
       mine = start-is_member v n s (subst (λ z. start_of v z ≡ Some s) owned
           (running-member T history v s good member (starts (S.owner s) ∙ runs-here)))
 
-      theirs : start_of v (S.owner c) ≡ Some c
-      theirs = running-member T history v c good
-          (names-within x.at v c (first-same ∙ sym good.first) b.within named) runs
+      named-here : names v c ≡ true
+      named-here = names-within x.at v c (first-same ∙ sym good.first) b.within named
         where
           first-same : x.at.first ≡ S.history.first.first
           first-same = (at-good T history x i).first
 
+      there : is_host S.deployment (S.owner c) ≡ true
+      there = (good.named_begun c named-here).host
+
+      theirs : start_of v (S.owner c) ≡ Some c
+      theirs = running-member T history v c good named-here runs
+
       what : out (Agent (S.owner c)) ≡ letter_to c (msg.Word v.base v.lost v.admitted) ∷ []
-      what = sends (S.owner c) ∙ rw (mine, far, theirs) refl
+      what = sends (S.owner c) ∙ rw (mine, there, far, theirs) refl
 
       by-here : S.owner x.by ≡ n
       by-here = ap S.owner b.by ∙ owned

@@ -11,7 +11,9 @@ use Rattle.volt_wire.specs.declared.actor.Actor.TheVariants.{Director, Client, A
 use Rattle.volt_wire.specs.declared.message.Msg.TheVariants as msg
 use Rattle.cluster_model.specs.Words.{is_in, is_host, admits, initiator, Deployment}
 use Rattle.cluster_model.specs.Letters.{same, Letter, Sends, Turn, Waiting, open_letter}
-use Rattle.cluster_model.specs.AgentState.{AgentState, Queued, Job_, Admission, initiates, is_initiator_in, new_agent}
+use Rattle.cluster_model.specs.AgentState.{AgentState, initiates, is_initiator_in, new_agent}
+use Rattle.cluster_model.specs.declared.initiating.Queued.{Queued}
+use Rattle.cluster_model.specs.declared.initiating.Queued.TheVariants.{ToRun, Admission}
 use Rattle.cluster_model.specs.World.{took, sent, rest, set_at}
 use Rattle.cluster_model.specs.Laws.{RiseFrom, starts_in}
 use Rattle.cluster_steps.specs.Lists.{In, OnSome}
@@ -606,7 +608,7 @@ pub queue-later : (S T : State) (n : ℕ) → ((h term j : ℕ) → CameOk S h n
 queue-later S T n up q came more k new from = all-from (QueuedAdmissionOk T n) more one
   where
     one : (x : Queued) → In x more → QueuedAdmissionOk T n x
-    one (Job_ job) i = tt
+    one (ToRun job) i = tt
     one (Admission j h term) i = elim (in-cases (Admission j h term) q came (from j h term i)) [
       | inl z ↦ up h term j (all-at (QueuedAdmissionOk S n) q k (Admission j h term) z)
       | inr z ↦ up h term j (new j h term z)

@@ -1,19 +1,20 @@
 -- What the handlers of an agent do with words.
 use Rattle.std.proofs.Common.{◌≡◌, Bool, true, false, List, [], ◌∷◌, refl, sym, subst, ◌⊎◌, inl, inr, ◌==◌}
 use Rattle.std.proofs.lemmas.Bool.{and_parts}
-use Rattle.std.specs.Prelude.{ℕ, ◌&&◌, ◌||◌, not, filter, if◌then◌else◌, nat_lt, Option, Some, None, is_none}
+use Rattle.std.specs.Prelude.{ℕ, ◌&&◌, ◌||◌, not, if◌then◌else◌, nat_lt, Option, Some, None, is_none}
 use Rattle.std.specs.List.{AllByRecursion, list_all}
 use Rattle.volt_wire.specs.Word.{Membership}
 use Rattle.volt_wire.specs.declared.actor.Actor.{Actor}
 use Rattle.volt_wire.specs.declared.actor.Actor.TheVariants.{Director, Client, Agent, Site, Scanner}
 use Rattle.volt_wire.specs.declared.message.Msg.TheVariants as msg
-use Rattle.cluster_model.specs.Words.{Deployment, is_host, is_in, term_of, same_word, members, start_of, is_member, admits, is_slot_of, is_client}
-use Rattle.cluster_model.specs.Letters.{Letter, Turn, becomes, open_letter}
-use Rattle.cluster_model.specs.AgentState.{AgentState, Off, Hears, initiates, stops, stops_with_host}
+use Rattle.cluster_model.specs.Words.{Deployment, is_host, term_of, same_word, members, start_of, is_member, admits, is_slot_of, is_client}
+use Rattle.cluster_model.specs.Letters.{same, Letter, Turn, becomes, open_letter, letter_to}
+use Rattle.cluster_model.specs.AgentState.{AgentState, Pending, initiates, stops, stops_with_host}
+use Rattle.cluster_model.specs.declared.initiating.Phase.TheVariants.{Off, Hears}
 use Rattle.cluster_model.specs.Initiator.{with_phase}
-use Rattle.cluster_model.specs.Agent.{on_decided, is_other_word, says, decides_word, is_word, may_decide}
+use Rattle.cluster_model.specs.Agent.{request, asks, on_decided, is_other_word, says, goes_again, asked_again, asks_if, asks_again, decided_sends, decides_word, is_word, may_decide}
 use Rattle.word_laws.specs.Histories.{IsOff, State, Gone}
-use Rattle.cluster_steps.proofs.Lists.{all-append, all-if, all-mono}
+use Rattle.cluster_steps.proofs.Lists.{all-append, all-if, all-mono, all-one}
 use Rattle.word_laws.proofs.Algebra.{same_word-is}
 use Rattle.word_laws.proofs.Moves.{ShownOk, TellsKnown}
 
@@ -90,24 +91,24 @@ stops-shown T s gone b ls h = all-mono (StopsSay s) (ShownOk T b) (one b) ls h
 
 -- ---- what follows a handler: the agent says its word, and decides it
 
-pub says-state : (n : ℕ) (a : AgentState) (own : Option Membership) → (says n a own).state ≡ a
-says-state n a None = refl
-says-state n a (Some w) = refl
+pub says-state : (D : Deployment) (n : ℕ) (a : AgentState) (own : Option Membership) → (says D n a own).state ≡ a
+says-state D n a None = refl
+says-state D n a (Some w) = refl
 
 -- if it is another than before
-abbrev pub tells : ℕ → Option Membership → AgentState → Turn AgentState
-tells n before a = if is_other_word before a.own then says n a a.own else becomes a
+abbrev pub tells : Deployment → ℕ → Option Membership → AgentState → Turn AgentState
+tells D n before a = if is_other_word before a.own then says D n a a.own else becomes a
 
 -- if each member has said it
 abbrev pub concludes : Deployment → ℕ → AgentState → Turn AgentState
 concludes D n a = if may_decide n a a.own then decides_word D n a a.own else becomes a
 
 -- with the same word as before it says nothing, with another one it says that
-pub tells-same : (n : ℕ) (before : Option Membership) (a : AgentState) → is_other_word before a.own ≡ false → tells n before a ≡ becomes a
-tells-same n before a e = rw e refl
+pub tells-same : (D : Deployment) (n : ℕ) (before : Option Membership) (a : AgentState) → is_other_word before a.own ≡ false → tells D n before a ≡ becomes a
+tells-same D n before a e = rw e refl
 
-pub tells-other : (n : ℕ) (before : Option Membership) (a : AgentState) → is_other_word before a.own ≡ true → tells n before a ≡ says n a a.own
-tells-other n before a e = rw e refl
+pub tells-other : (D : Deployment) (n : ℕ) (before : Option Membership) (a : AgentState) → is_other_word before a.own ≡ true → tells D n before a ≡ says D n a a.own
+tells-other D n before a e = rw e refl
 
 -- it decides its word where it may, and else does nothing
 pub concludes-not : (D : Deployment) (n : ℕ) (a : AgentState) → may_decide n a a.own ≡ false → concludes D n a ≡ becomes a
@@ -116,11 +117,11 @@ concludes-not D n a e = rw e refl
 pub concludes-is : (D : Deployment) (n : ℕ) (a : AgentState) → may_decide n a a.own ≡ true → concludes D n a ≡ decides_word D n a a.own
 concludes-is D n a e = rw e refl
 
-pub tells-state : (n : ℕ) (before : Option Membership) (a : AgentState) → (tells n before a).state ≡ a
-tells-state n before a = choice (is_other_word before a.own)
+pub tells-state : (D : Deployment) (n : ℕ) (before : Option Membership) (a : AgentState) → (tells D n before a).state ≡ a
+tells-state D n before a = choice (is_other_word before a.own)
   where
-    choice : (c : Bool) → (if c then says n a a.own else becomes a).state ≡ a
-    choice true = says-state n a a.own
+    choice : (c : Bool) → (if c then says D n a a.own else becomes a).state ≡ a
+    choice true = says-state D n a a.own
     choice false = refl
 
 -- What an agent knows once it has decided the word w.
@@ -139,14 +140,55 @@ pub decides-state : (D : Deployment) (n : ℕ) (a : AgentState) (w : Membership)
 decides-state D n a w = choice (initiates n a (Some w)) refl
   where
     choice : (c : Bool) → initiates n a (Some w) ≡ c
-        → Decides n a w (if c then with_phase (record a { decided = Some w; pending = filter (λ p. not (is_in p.target w.lost)) a.pending }) (Hears [])
-        else with_phase (record a { decided = Some w; pending = filter (λ p. not (is_in p.target w.lost)) a.pending }) Off)
+        → Decides n a w (if c then with_phase (record a { decided = Some w; pending = asked_again D w a.pending }) (Hears [])
+        else with_phase (record a { decided = Some w; pending = asked_again D w a.pending }) Off)
     choice true e = record { start = refl; own = refl; taken = refl; said = refl; waiting = refl; queue = refl; decided = refl; phase = inr e }
     choice false e = record { start = refl; own = refl; taken = refl; said = refl; waiting = refl; queue = refl; decided = refl; phase = inl tt }
 
+-- a call that is asked for, of any start
+abbrev pub IsRequest : Letter → Type 0
+IsRequest l = elim l.body as (λ _. Type 0) [
+  | msg.SpCall call start client body ↦ Unit {0}
+  | msg.MpCall call start client body ↦ Unit {0}
+  | _ ↦ ⊥
+]
+
+-- what holds of calls holds of such a message
+pub request-cases : (P : Letter → Type 0) → ((l : Letter) (call start client : ℕ) (body : List ℕ) → P (record l { body = msg.SpCall call start client body }))
+    → ((l : Letter) (call start client : ℕ) (body : List ℕ) → P (record l { body = msg.MpCall call start client body })) → (l : Letter) → IsRequest l → P l
+request-cases P sp mp l r = elim l.body as (λ m. IsRequest (record l { body = m }) → P (record l { body = m })) [
+  | msg.SpCall call start client body ↦ λ k. sp l call start client body
+  | msg.MpCall call start client body ↦ λ k. mp l call start client body
+  | m ↦ λ k. absurd k
+] r
+
+asks-requests : (start : ℕ) (p : Pending) (to : Actor × ℕ) (b : Actor) → AllByRecursion IsRequest (asks start p to b)
+asks-requests start p to b = all-one IsRequest (same to.0 b) (letter_to to.1 (request start p p.part)) (λ q. is p.part)
+  where
+    is : (part : Option ℕ) → IsRequest (letter_to to.1 (request start p part))
+    is None = tt
+    is (Some part) = tt
+
+-- the calls that it asks again for on deciding a word
+pub asks_again-requests : (D : Deployment) (start : ℕ) (w : Membership) (ps : List Pending) (b : Actor) → AllByRecursion IsRequest (asks_again D start w ps b)
+asks_again-requests D start w [] b = tt
+asks_again-requests D start w (p ∷ ps) b =
+    all-append IsRequest (asks_if start p (goes_again D w p) b) (asks_again D start w ps b) (one (goes_again D w p)) (asks_again-requests D start w ps b)
+  where
+    one : (to : Option (Actor × ℕ)) → AllByRecursion IsRequest (asks_if start p to b)
+    one None = tt
+    one (Some to) = asks-requests start p to b
+
+-- To an agent that says its decided word, or asks for a call.
+abbrev pub DecidedOrRequest : Membership → Letter → Type 0
+DecidedOrRequest w l = (l ≡ open_letter (msg.Decided w)) ⊎ IsRequest l
+
 pub decides-sends : (D : Deployment) (n : ℕ) (a : AgentState) (w : Membership) (g : ℕ)
-    → AllByRecursion (λ l. l ≡ open_letter (msg.Decided w)) ((decides_word D n a (Some w)).sends (Agent g))
-decides-sends D n a w g = all-if (λ l. l ≡ open_letter (msg.Decided w)) (is_host D g && not (g == n) && is_none (start_of w g)) (open_letter (msg.Decided w) ∷ []) [] (refl, tt) tt
+    → AllByRecursion (DecidedOrRequest w) ((decides_word D n a (Some w)).sends (Agent g))
+decides-sends D n a w g =
+    all-append (DecidedOrRequest w) (decided_sends D n a w (Agent g)) (asks_again D a.start w a.pending (Agent g))
+    (all-if (DecidedOrRequest w) (is_host D g && not (g == n) && is_none (start_of w g)) (open_letter (msg.Decided w) ∷ []) [] (inl refl, tt) tt)
+    (all-mono IsRequest (DecidedOrRequest w) (λ l r. inr r) (asks_again D a.start w a.pending (Agent g)) (asks_again-requests D a.start w a.pending (Agent g)))
 
 -- where it may, it is a member, and has heard the word from all others
 pub may_decide-cases : (n : ℕ) (a : AgentState) (w : Membership) → may_decide n a (Some w) ≡ true

@@ -20,7 +20,7 @@ use Rattle.cluster_model.specs.Director.{DirectorState, does, does_next}
 use Rattle.cluster_model.specs.Environment.{Environment, NoFault, DiskFails, NoMemory, DisksShow}
 use Rattle.cluster_model.specs.AgentState.{new_agent}
 use Rattle.cluster_model.specs.Agent.{agent_turn, start_after}
-use Rattle.cluster_model.specs.World.{World, Input, first_world, set_at, sent, stamp_of, with_director, member_agent, new_word, greatest_done}
+use Rattle.cluster_model.specs.World.{World, Input, first_world, set_at, sent, stamp_of, with_director, member_agent, new_word, greatest_done, greatest_replies}
 use Rattle.cluster_model.specs.Recover.{recovers, starts_anew, stays_stopped, new_base, new_log}
 use Rattle.cluster_model.specs.Events.{is_actor, is_some_letter, can, allows, delivered, recovered_with, may_do, happens, step}
 use Rattle.cluster_model.specs.Runs.{Happening, has_failed, may_happen, renews_by, renews_at, renews}
@@ -179,8 +179,8 @@ first-holds E I =
     record {
       owner = new_owner 1 (λ s. 0);
       history = new_history D (new_word D I.base 1) 1;
-      holds = boot-holds D I.base number;
-      strangers = λ h e. if-false (is_host D h) (member_agent (new_word D I.base 1) number 1 h) (new_agent 0) e;
+      holds = boot-holds D I.base number [];
+      strangers = λ h e. if-false (is_host D h) (member_agent (new_word D I.base 1) number [] 1 h) (new_agent 0) e;
     }
 
 anew-reaches : (E : Database) (w : World) (shown : List ℕ) (k : InEpoch w) → WordsReach k.history true (starts_anew E w shown)
@@ -189,12 +189,13 @@ anew-reaches E w shown k =
     let start = w.director.next_start in
     let base = new_base w shown in
     let number = greatest_done E (new_log E w shown) (parts D) + 1 in
+    let replies = greatest_replies E (new_log E w shown) (parts D) in
     record {
       next = record {
         owner = new_owner start k.owner;
         history = new_history D (new_word D base start) start;
-        holds = recovery-holds (state_of w k.owner k.history) base number k.holds k.strangers;
-        strangers = λ h e. if-false (is_host D h) (member_agent (new_word D base start) number start h) (w.agents h) e ∙ k.strangers h e;
+        holds = recovery-holds (state_of w k.owner k.history) base number replies k.holds k.strangers;
+        strangers = λ h e. if-false (is_host D h) (member_agent (new_word D base start) number replies start h) (w.agents h) e ∙ k.strangers h e;
       };
       grows = λ e. absurd (false≢true (sym e));
     }

@@ -8,7 +8,11 @@ use Rattle.volt_wire.specs.declared.actor.Actor.TheVariants.{Director, Agent}
 use Rattle.volt_wire.specs.declared.message.Msg.TheVariants as msg
 use Rattle.cluster_model.specs.Words.{Deployment, is_host, is_in, term_of, start_of, initiator, admits, with_admitted}
 use Rattle.cluster_model.specs.Letters.{Letter, Waiting}
-use Rattle.cluster_model.specs.AgentState.{AgentState, Phase, Off, Hears, Closes, Idle, Works, Queued, Job_, Admission, initiates}
+use Rattle.cluster_model.specs.AgentState.{AgentState, initiates}
+use Rattle.cluster_model.specs.declared.initiating.Phase.{Phase}
+use Rattle.cluster_model.specs.declared.initiating.Phase.TheVariants.{Off, Hears, Closes, Idle, Works}
+use Rattle.cluster_model.specs.declared.initiating.Queued.{Queued}
+use Rattle.cluster_model.specs.declared.initiating.Queued.TheVariants.{ToRun, Admission}
 use Rattle.cluster_model.specs.Laws.{RiseFrom, starts_in}
 use Rattle.cluster_steps.specs.Lists.{In, OnSome}
 
@@ -188,7 +192,7 @@ abbrev pub CameOk : State → ℕ → ℕ → ℕ → ℕ → Type 0
 CameOk S h g term j = AsksAdmission S h g term j × AllByRecursion (ClosesFrom (S.history.began h) j) (S.channel (Agent h) (Agent g))
 
 abbrev pub QueuedAdmissionOk : State → ℕ → Queued → Type 0
-QueuedAdmissionOk S g (Job_ job) = Unit {0}
+QueuedAdmissionOk S g (ToRun job) = Unit {0}
 QueuedAdmissionOk S g (Admission j h term) = CameOk S h g term j
 
 -- Of what agents say, only Admit may wait.
@@ -242,7 +246,7 @@ Falls (w ∷ ws) = AllByRecursion (λ v. Within v w) ws × Falls ws
 
 -- Of an admission. It was at a decided word that doesn't name the start, by that word's initiator, which said the word with
 -- the start in it. It was the word that the start had taken, by its term. Other starts of its host were lost in it. The
--- start is above the initiator's.
+-- start is above those of all its members.
 pub record AdmittedOk (S : State) (x : Admitted) : Type 0 where
   pub decided : In x.at S.history.decided
   pub by_initiator : initiator x.at ≡ Some (S.owner x.by, x.by)
@@ -253,7 +257,7 @@ pub record AdmittedOk (S : State) (x : Admitted) : Type 0 where
   pub term_is : term_of word ≡ term_of x.at
   pub begun : Begun S x.start
   pub one_host : (s : ℕ) → names x.at s ≡ true → S.owner s ≡ S.owner x.start → is_in s x.at.lost ≡ true
-  pub above : x.by < x.start
+  pub above : (h s : ℕ) → start_of x.at h ≡ Some s → s < x.start
 
 pub record HistoryOk (S : State) : Type 0 where
   -- the first word: each host with one start

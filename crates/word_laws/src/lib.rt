@@ -10,14 +10,14 @@ ghost use Rattle.volt_wire.specs.declared.actor.Actor.TheVariants.{Agent};
 ghost use Rattle.volt_wire.specs.declared.event.Event.TheVariants as event;
 ghost use Rattle.volt_wire.specs.declared.message.Msg.TheVariants as msg;
 ghost use Rattle.volt_wire.specs.Word.{Membership};
-ghost use Rattle.cluster_model.specs.Words.{is_host, term_of};
+ghost use Rattle.cluster_model.specs.Words.{Deployment, is_host, term_of};
 ghost use Rattle.cluster_model.specs.Letters.{open_letter};
 ghost use Rattle.cluster_model.specs.Environment.{Environment};
 ghost use Rattle.cluster_model.specs.Events.{allows, can, step};
 ghost use Rattle.cluster_model.specs.Laws.{EndsWith, left_by, starts_in};
 ghost use Rattle.cluster_model.specs.World.{World, Input};
 ghost use Rattle.cluster_model.specs.Runs.{Reached, RunsInEpoch};
-ghost use Rattle.word_laws.specs.Chain.{HasDecided, HasWord, InEpoch, OneStartPerHost};
+ghost use Rattle.word_laws.specs.Chain.{HasDecided, HasWord, InEpoch, KeepsInitiator, KeepsLeaders, MembersRise, OneStartPerHost};
 ghost use Rattle.word_laws.specs.Histories.{Comparable};
 ghost use Rattle.word_laws.specs.Lost.{LostAreStopped};
 
@@ -48,6 +48,29 @@ pub fn a_term_names_one_decided_word<B: AnyDatabase>()
 pub fn one_start_per_host<B: AnyDatabase>()
     ensures { (input : Input) (w : World) (m : Membership)
         → Reached B.database input w → HasWord w m → OneStartPerHost m }
+{}
+
+/// Of two words that were decided from one recovery that works to the next, a member of the later one
+/// that the earlier one doesn't name has a greater start than each member of the earlier one that is
+/// still there. So members rise by start in the order in which they were admitted, and none is passed
+/// over. It holds whichever of the two is the later one.
+pub fn members_rise_as_they_were_admitted<B: AnyDatabase>()
+    ensures { (input : Input) (v w : World) (m n : Membership)
+        → Reached B.database input v → RunsInEpoch B.database v w
+        → HasDecided v m → HasDecided w n → MembersRise m n × MembersRise n m }
+{}
+
+/// Of two words that were decided from one recovery that works to the next, one within the other, the
+/// later one has the initiator of the earlier one, unless its start is lost there. The same is so of
+/// the leader of a partition, in any deployment: another one leads only if the start of the leader's
+/// host is lost. It holds whichever of the two is the later one.
+pub fn initiators_and_leaders_change_only_by_loss<B: AnyDatabase>()
+    ensures initiator { (input : Input) (v w : World) (m n : Membership)
+        → Reached B.database input v → RunsInEpoch B.database v w
+        → HasDecided v m → HasDecided w n → KeepsInitiator m n × KeepsInitiator n m }
+    ensures leaders { (input : Input) (v w : World) (m n : Membership) (D : Deployment)
+        → Reached B.database input v → RunsInEpoch B.database v w
+        → HasDecided v m → HasDecided w n → KeepsLeaders D m n × KeepsLeaders D n m }
 {}
 
 /// Each world has a history of the words that were said, decided and admitted since the last recovery

@@ -40,7 +40,7 @@ abbrev pub lost : List Event
 lost =
     Item ∷ Deliver (Agent 0) Director ∷ Deliver (Client 1) (Agent 0) ∷ Deliver (Client 2) (Agent 0)
     ∷ Deliver (Agent 1) (Agent 0) ∷ Deliver (Agent 2) (Agent 0) ∷ Deliver (Agent 1) (Agent 2)
-    ∷ Deliver (Client 2) (Agent 1) ∷ Deliver (Agent 0) (Agent 1) ∷ Deliver (Agent 2) (Agent 1)
+    ∷ Deliver (Agent 1) (Agent 1) ∷ Deliver (Agent 0) (Agent 1) ∷ Deliver (Agent 2) (Agent 1)
     ∷ Deliver (Agent 0) (Agent 2) ∷ Deliver (Site 0) Director ∷ Deliver (Site 0) (Agent 0)
     ∷ Deliver (Site 1) (Agent 1) ∷ Deliver (Site 2) (Agent 2) ∷ Deliver (Site 3) Director
     ∷ Deliver (Site 3) (Agent 0) ∷ Deliver (Site 4) (Agent 1) ∷ Deliver (Site 5) (Agent 2)
@@ -50,8 +50,20 @@ lost =
     ∷ Deliver (Agent 1) (Site 4) ∷ Deliver (Site 4) (Agent 1) ∷ Deliver (Site 5) (Site 4) ∷ Sync 4 ∷ Sync 5
     ∷ Deliver (Site 4) (Site 5) ∷ Deliver (Agent 1) (Site 4) ∷ []
 
+-- An order of the next initiator reaches the leaders of all partitions, and is answered: a round, or the end.
+abbrev pub order : List Event
+order =
+    Deliver (Site 1) (Agent 1) ∷ Sync 1 ∷ Deliver (Agent 1) (Site 1)
+    ∷ Deliver (Site 2) (Agent 1) ∷ Sync 2 ∷ Deliver (Agent 1) (Site 2)
+    ∷ Deliver (Site 4) (Agent 1) ∷ Deliver (Site 5) (Site 4) ∷ Sync 4 ∷ Sync 5
+    ∷ Deliver (Site 4) (Site 5) ∷ Deliver (Agent 1) (Site 4) ∷ []
+
+-- it has dropped the transaction, and runs the call, which was asked again: four rounds and the end
+abbrev pub runs_again : List Event
+runs_again = order ++ order ++ order ++ order ++ order ++ Deliver (Client 2) (Agent 1) ∷ []
+
 abbrev pub events : List Happening
-events = no_fault (puts ++ begun ++ lost)
+events = no_fault (puts ++ begun ++ lost ++ runs_again)
 
 abbrev pub last : World
 last = run toy events start
@@ -59,9 +71,9 @@ last = run toy events start
 abbrev pub shown : Stampless
 shown =
     record {
-      ends = (1, end.Ok (gives 1)) ∷ (2, end.Ok (gives 1)) ∷ (3, end.Unknown 1 2) ∷ [];
-      serial = 1 ∷ 2 ∷ [];
-      copies = shows 1 0 [] ∷ shows 2 1 (1 ∷ 10 ∷ []) ∷ shows 4 1 (2 ∷ 5 ∷ []) ∷ shows 5 1 (2 ∷ 5 ∷ []) ∷ [];
+      ends = (1, end.Ok (gives 1)) ∷ (2, end.Ok (gives 1)) ∷ (3, end.Ok (gives 6)) ∷ [];
+      serial = 1 ∷ 2 ∷ 3 ∷ [];
+      copies = shows 1 1 [] ∷ shows 2 2 (1 ∷ 6 ∷ []) ∷ shows 4 2 (2 ∷ 9 ∷ []) ∷ shows 5 2 (2 ∷ 9 ∷ []) ∷ [];
       looks = [];
       enabled = [];
       serves = true;

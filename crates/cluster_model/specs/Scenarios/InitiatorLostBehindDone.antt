@@ -59,7 +59,7 @@ lost =
 abbrev pub goes_on : List Event
 goes_on =
     Deliver (Client 1) (Agent 0) ∷ Deliver (Client 2) (Agent 0) ∷ Deliver (Agent 1) (Agent 0)
-    ∷ Deliver (Agent 2) (Agent 0) ∷ Deliver (Agent 1) (Agent 2) ∷ Deliver (Client 2) (Agent 1)
+    ∷ Deliver (Agent 2) (Agent 0) ∷ Deliver (Agent 1) (Agent 2) ∷ Deliver (Agent 1) (Agent 1)
     ∷ Deliver (Agent 0) (Agent 1) ∷ Deliver (Agent 2) (Agent 1) ∷ Deliver (Agent 0) (Agent 2)
     ∷ Deliver (Site 0) Director ∷ Deliver (Site 0) (Agent 0) ∷ Deliver (Site 1) (Agent 1)
     ∷ Deliver (Site 2) (Agent 2) ∷ Deliver (Site 3) Director ∷ Deliver (Site 3) (Agent 0)
@@ -68,7 +68,7 @@ goes_on =
     ∷ Deliver (Scanner 3) Director ∷ Sync 1 ∷ Deliver (Agent 1) (Site 1) ∷ Sync 2
     ∷ Deliver (Agent 1) (Site 2) ∷ Sync 4 ∷ Sync 5 ∷ Deliver (Site 4) (Site 5) ∷ Deliver (Agent 1) (Site 4)
     ∷ Deliver (Site 1) (Agent 1) ∷ Deliver (Site 2) (Agent 1) ∷ Sync 1 ∷ Deliver (Agent 1) (Site 1)
-    ∷ Sync 2 ∷ Deliver (Agent 1) (Site 2) ∷ []
+    ∷ Sync 2 ∷ Deliver (Agent 1) (Site 2) ∷ Deliver (Client 2) (Agent 1) ∷ []
 
 abbrev pub events : List Happening
 events = no_fault (puts ++ rounds ++ lost ++ goes_on)
@@ -79,7 +79,7 @@ last = run toy events start
 abbrev pub shown : Stampless
 shown =
     record {
-      ends = (1, end.Ok (gives 1)) ∷ (2, end.Ok (gives 1)) ∷ (3, end.Unknown 1 2) ∷ [];
+      ends = (1, end.Ok (gives 1)) ∷ (2, end.Ok (gives 1)) ∷ (3, end.Ok (gives 6)) ∷ [];
       serial = 1 ∷ 2 ∷ 3 ∷ [];
       copies = shows 1 1 [] ∷ shows 2 2 (1 ∷ 6 ∷ []) ∷ shows 4 2 (2 ∷ 9 ∷ []) ∷ shows 5 2 (2 ∷ 9 ∷ []) ∷ [];
       looks = [];

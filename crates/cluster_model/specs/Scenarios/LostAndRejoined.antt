@@ -26,7 +26,7 @@ abbrev pub joining : World
 joining = until (λ w. is_joiner (w.sites 0)) 90 start
 
 abbrev pub contents : List Shown
-contents = Some (record { mark = 1; base = 0; log = Sp 1 4 (put 1 10) ∷ [] }) ∷ []
+contents = Some (record { mark = 1; base = 0; log = Sp 1 2 4 (put 1 10) ∷ [] }) ∷ []
 
 abbrev pub rows : List ℕ
 rows = 1 ∷ 10 ∷ 2 ∷ 20 ∷ []

@@ -1,4 +1,4 @@
--- Two hosts with a copy each: the lost leader has the longer log on its disk, the other one the later mark.
+-- Two hosts with a copy each: both disks have the call, at two points; that with the later mark counts.
 use Rattle.std.specs.Prelude.{true, List, [], ◌∷◌, Some}
 use Rattle.volt_base.specs.declared.entry.Entry.TheVariants.{Sp}
 use Rattle.volt_wire.specs.declared.actor.Actor.TheVariants.{Director, Client, Agent, Site, Scanner}
@@ -9,8 +9,8 @@ use Rattle.volt_wire.specs.declared.item.Item.TheVariants as item
 use Rattle.cluster_model.specs.Disk.{Shown}
 use Rattle.cluster_model.specs.World.{World, Input}
 use Rattle.cluster_model.specs.Runs.{by_first, run, no_fault, Happening}
-use Rattle.cluster_model.specs.Toy.{toy, put}
-use Rattle.cluster_model.specs.Scenarios.{Outline, deployed, blank, begins, calls_on, ends_so, shows, at_once, after_calls}
+use Rattle.cluster_model.specs.Toy.{toy, put, gives}
+use Rattle.cluster_model.specs.Scenarios.{Outline, deployed, blank, begins, calls_on, ends_so, point, shows, at_once, after_calls}
 
 abbrev pub input : Input
 input =
@@ -31,13 +31,13 @@ given_run = no_fault given
 
 -- all is stopped and a recovery is asked for
 abbrev pub stopped : World
-stopped = by_first toy 24 (run toy given_run start)
+stopped = by_first toy 26 (run toy given_run start)
 
 -- what the disks of both slots show
 abbrev pub contents : List (List Shown)
 contents =
-    (Some (record { mark = 1; base = 0; log = Sp 1 3 (put 1 10) ∷ [] }) ∷ [])
-    ∷ (Some (record { mark = 2; base = 0; log = [] }) ∷ []) ∷ []
+    (Some (record { mark = 1; base = 0; log = Sp 1 2 3 (put 1 10) ∷ [] }) ∷ [])
+    ∷ (Some (record { mark = 2; base = 0; log = Sp 1 2 16 (put 1 10) ∷ [] }) ∷ []) ∷ []
 
 abbrev pub last : World
 last = by_first toy 30 stopped
@@ -45,9 +45,9 @@ last = by_first toy 30 stopped
 abbrev pub shown : Outline
 shown =
     record {
-      ends = ends_so 1 2 1 15 (end.Unknown 1 2) ∷ [];
-      serial = [];
-      copies = shows 0 0 [] ∷ shows 1 0 [] ∷ [];
+      ends = ends_so 1 2 1 19 (end.Ok (gives 1)) ∷ [];
+      serial = point 16 1 ∷ [];
+      copies = shows 0 1 (1 ∷ 10 ∷ []) ∷ shows 1 1 (1 ∷ 10 ∷ []) ∷ [];
       looks = [];
       enabled = [];
       serves = true;

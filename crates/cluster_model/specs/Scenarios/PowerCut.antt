@@ -35,7 +35,7 @@ cut = by_first toy 7 (step toy applied failing)
 abbrev pub contents : List Shown
 contents =
     Some (record { mark = 1; base = 0; log = [] })
-    ∷ Some (record { mark = 1; base = 0; log = Sp 1 6 (put 1 10) ∷ [] }) ∷ []
+    ∷ Some (record { mark = 1; base = 0; log = Sp 1 1 6 (put 1 10) ∷ [] }) ∷ []
 
 -- the recovery, where the disk shows the content of this number
 abbrev pub recovery : ℕ → List Happening

@@ -63,7 +63,7 @@ rejoins =
 -- what the disks of the hosts 0 and 1 show then
 abbrev pub contents : List (List Shown)
 contents =
-    (Some (record { mark = 2; base = 0; log = Sp 1 61 (put 1 10) ∷ [] }) ∷ [])
+    (Some (record { mark = 2; base = 0; log = Sp 1 3 61 (put 1 10) ∷ [] }) ∷ [])
     ∷ (Some (record { mark = 4; base = 0; log = [] }) ∷ []) ∷ []
 
 -- the log of the greatest term hasn't the call, which isn't firm

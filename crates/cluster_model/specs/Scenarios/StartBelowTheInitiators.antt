@@ -1,4 +1,4 @@
--- Two hosts come back. That with the later start joins first, and becomes the initiator. Then the other one asks.
+-- Two hosts come back. That with the later start joins first, and becomes the initiator. Then the other one takes its Start.
 use Rattle.std.specs.Prelude.{ℕ, List, [], ◌∷◌, ◌++◌, Option, Some, None}
 use Rattle.volt_wire.specs.Word.{Membership}
 use Rattle.volt_wire.specs.declared.actor.Actor.TheVariants.{Director, Agent, Site, Scanner}
@@ -42,21 +42,25 @@ succeeds =
     ∷ Deliver (Agent 2) (Agent 0) ∷ Deliver (Site 2) (Agent 2) ∷ Deliver (Site 2) (Agent 2) ∷ Sync 2
     ∷ Deliver (Agent 2) (Site 2) ∷ []
 
--- start 4 comes to host 1, which takes the word of host 2, loads what its site streams, and asks
-abbrev pub asks : List Event
-asks =
+-- start 4 comes to host 1, which hears of the word of host 2
+abbrev pub comes : List Event
+comes =
     Deliver (Agent 1) (Agent 2) ∷ Deliver (Agent 1) (Agent 2) ∷ Deliver (Agent 1) (Agent 2) ∷ Deliver (Agent 1) (Agent 2)
-    ∷ Deliver (Agent 1) Director ∷ Deliver (Agent 2) (Agent 1) ∷ Deliver (Agent 2) (Agent 1) ∷ Deliver (Agent 1) (Agent 2)
-    ∷ Deliver (Site 1) (Agent 1) ∷ Deliver (Site 1) (Agent 1) ∷ Deliver (Site 2) (Site 1)
-    ∷ Deliver (Scanner 2) (Site 2) ∷ Deliver (Scanner 2) (Site 2) ∷ Scan 2 ∷ Deliver (Site 2) (Scanner 2)
-    ∷ Deliver (Site 1) (Site 2) ∷ Deliver (Site 1) (Site 2) ∷ Sync 1 ∷ Deliver (Agent 1) (Site 1)
-    ∷ Deliver (Agent 2) (Agent 1) ∷ []
+    ∷ Deliver (Agent 1) Director ∷ Deliver (Agent 2) (Agent 1) ∷ Deliver (Agent 2) (Agent 1) ∷ []
 
 abbrev pub events : List Happening
-events = no_fault (lost ++ admitted ++ succeeds ++ asks)
+events = no_fault (lost ++ admitted ++ succeeds ++ comes)
+
+-- it runs as a joiner without a word
+abbrev pub joining : World
+joining = run toy events start
+
+-- it takes the word, in which it would be the initiator's elder
+abbrev pub heard : List Happening
+heard = no_fault (Deliver (Agent 1) (Agent 2) ∷ [])
 
 abbrev pub last : World
-last = run toy events start
+last = run toy heard joining
 
 -- the initiator of a word, its host and its start, if there is a word
 abbrev pub initiator_of : Option Membership → Option (ℕ × ℕ)

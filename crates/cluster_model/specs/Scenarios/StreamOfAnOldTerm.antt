@@ -42,7 +42,7 @@ rejoins =
 
 -- what the disk of host 1 shows then
 abbrev pub contents : List Shown
-contents = Some (record { mark = 2; base = 0; log = Sp 1 11 (put 1 10) ∷ [] }) ∷ []
+contents = Some (record { mark = 2; base = 0; log = Sp 1 2 11 (put 1 10) ∷ [] }) ∷ []
 
 abbrev pub events : List Happening
 events = no_fault (served ++ lost ++ rejoins)

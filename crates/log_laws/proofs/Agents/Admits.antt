@@ -1,5 +1,5 @@
 -- Who asks to be admitted has loaded all, and has it on disk: what holds of that, holds after an agent's turns.
-use Rattle.log_laws.proofs.Names.{◌≡◌, ◌+◌, ◌<◌, Bool, true, List, subst, inl, inr, ◌==◌, arith, and_parts, nat_tests, ℕ, nat_lt, AllByRecursion, list_all, range_with_len, Actor, Agent, Site, Deployment, slots, host_of_slot, is_slot_of, slots_of_host, is_in, Letter, Sends, AgentState, Queued, Job_, Admission, took, In, History, Admitted, all-mono, all-append, list_all-at, filter-in, set-both, sent-both, took-all, asked_by, LogState, LoadedOk, AllLoaded, ToldOk, AskedOk, QueuedLoadedOk, LoadsOk}
+use Rattle.log_laws.proofs.Names.{◌≡◌, ◌+◌, ◌<◌, Bool, true, List, subst, inl, inr, ◌==◌, arith, and_parts, nat_tests, ℕ, nat_lt, AllByRecursion, list_all, range_with_len, Actor, Agent, Site, Deployment, slots, host_of_slot, is_slot_of, slots_of_host, is_in, Letter, Sends, AgentState, Queued, ToRun, Admission, took, In, History, Admitted, all-mono, all-append, list_all-at, filter-in, set-both, sent-both, took-all, asked_by, LogState, LoadedOk, AllLoaded, ToldOk, AskedOk, QueuedLoadedOk, LoadsOk}
 use Rattle.volt_wire.specs.declared.message.Msg.TheVariants as msg
 use Rattle.word_laws.proofs.Moves as word
 use Rattle.log_laws.proofs.Agents.AgentSends.{NoAdmit}
@@ -15,7 +15,7 @@ module _ (S : LogState) (agents : ℕ → AgentState) (channel : Actor → Actor
   asked-worded from l k = tt
 
   pub queued-worded : (q : Queued) → QueuedLoadedOk S q → QueuedLoadedOk (worded S agents channel G) q
-  queued-worded (Job_ job) k = tt
+  queued-worded (ToRun job) k = tt
   queued-worded (Admission a h term) k = k
 
 -- a message that doesn't ask

@@ -1,5 +1,5 @@
 -- An agent takes a message: what holds, holds after all that it does then.
-use Rattle.log_laws.proofs.Names.{◌≡◌, ◌<◌, true, false, List, [], ◌∷◌, ◌++◌, refl, sym, subst, ap, ◌⊎◌, inl, inr, ◌==◌, arith, cases_eq, nat_tests, ℕ, ◌&&◌, not, nat_lt, None, AllByRecursion, Actor, Director, Agent, Site, Database, is_host, term_in, Letter, Sends, Turn, becomes, open_letter, ◌▸◌, arrival, Arrival, Taken, Refused, Waits, Waiting, of_term, above_term, AgentState, new_agent, stops, stops_with_host, agent_handler, handler_and_word, unless_stopped, agent_runs, agent_takes, agent_turn, start_taken, rest, start_in_letter, starts_in, Environment, NoMemory, In, History, Admitted, CameOk, AgentWaitingFrom, AgentWaitingOk, all-mono, all-append, all-filter, all-if, Grows, grows-same, concludes, StopsSay, stops-say, stops_with_host-say, AgentTakes, Stops_, Ignores, Runs_, takes-cases, runs-taken, runs-waits, runs-refused, turn-cases, stopped-cases, unless-running, waiting-brings, pops, waiting-shrinks, with_began, start-grows, start-holds, start-stops-holds, WordsTurn, none-handler, handler-grows, handler-plain, handler-later, others-after, then-assoc, concludes-none, calm-event, handler-event, asked-waiting, came-still, none-taken, none-waited, waits-event, refused-event, ignored-event, stop-pops, stays-holds, comes-first, start-of-body, LogState, AskedOk, LogsHold, asked}
+use Rattle.log_laws.proofs.Names.{◌≡◌, ◌<◌, true, false, List, [], ◌∷◌, ◌++◌, refl, sym, subst, ap, ◌⊎◌, inl, inr, ◌==◌, arith, cases_eq, nat_tests, ℕ, ◌&&◌, not, nat_lt, None, AllByRecursion, Actor, Director, Agent, Site, Database, is_host, term_in, Letter, Sends, Turn, becomes, open_letter, ◌▸◌, arrival, Arrival, Taken, Refused, Waits, Waiting, of_term, above_term, AgentState, new_agent, stops, stops_with_host, agent_handler, handler_and_word, unless_stopped, agent_runs, agent_takes, agent_turn, start_taken, rest, start_in_letter, starts_in, Environment, NoMemory, In, History, Admitted, CameOk, AgentWaitingFrom, AgentWaitingOk, all-mono, all-append, all-filter, all-if, Grows, grows-same, concludes, StopsSay, stops-say, stops_with_host-say, AgentTakes, Stops_, Ignores, Runs_, takes-cases, runs-taken, runs-waits, runs-refused, turn-cases, stopped-cases, unless-running, waiting-brings, pops, waiting-shrinks, with_began, start-grows, start-holds, start-stops-holds, WordsTurn, none-handler, handler-grows, handler-plain, handler-later, others-after, then-assoc, concludes-none, calm-event, handler-event, asked-waiting, came-still, none-taken, none-waited, waits-event, refused-event, ignored-event, stop-pops, stays-holds, comes-first, start-of-body, LogState, AskedOk, LogsHold, asked, Client, Scanner}
 use Rattle.volt_wire.specs.declared.message.Msg.TheVariants as msg
 use Rattle.cluster_model.specs.Agent.{takes_each, takes_waiting, start_after, on_start}
 use Rattle.word_laws.specs.Histories as word
@@ -46,8 +46,8 @@ handler-waited E S n stamp from l h r up w asked =
     let D = S.words.deployment in
     let a = S.words.agents n in
     subst (AgentHandler S n) (sym (unless-running E D n stamp a from l running))
-    (subst (AgentHandler S n) (then-assoc (agent_handler E D n stamp a from l) (tells n a.own) (concludes D n))
-    (concluded-agent S n (agent_handler E D n stamp a from l ▸ tells n a.own)
+    (subst (AgentHandler S n) (then-assoc (agent_handler E D n stamp a from l) (tells S.words.deployment n a.own) (concludes D n))
+    (concluded-agent S n (agent_handler E D n stamp a from l ▸ tells S.words.deployment n a.own)
     (first-agent S n r up E stamp from l asked (λ b. h)
     (calm-event E S.words n stamp from l h up (waiting-brings S.words n from l w) (asked-waiting S.words n from l w) (may-join S n r up from l asked)))))
 
@@ -133,14 +133,22 @@ module _ (E : Database) (S : LogState) (n stamp : ℕ) (from : Actor) (l : Lette
       t = handler_and_word E S.words.deployment n stamp a from l
 
       first : AgentHandler P n t
-      first = subst (AgentHandler P n) (then-assoc (agent_handler E S.words.deployment n stamp a from l) (tells n a.own) (concludes S.words.deployment n))
-          (concluded-agent P n (agent_handler E S.words.deployment n stamp a from l ▸ tells n a.own)
+      first = subst (AgentHandler P n) (then-assoc (agent_handler E S.words.deployment n stamp a from l) (tells S.words.deployment n a.own) (concludes S.words.deployment n))
+          (concluded-agent P n (agent_handler E S.words.deployment n stamp a from l ▸ tells S.words.deployment n a.own)
           (first-agent P n left up E stamp from l asks (decided-pops S from n l ls H.words is)
           (handler-event E S.words n stamp from l ls H.words up is e (may-join P n left up from l asks))))
 
+  -- what a letter has of history doesn't matter
+  without-past : (from : Actor) (l : Letter) → AskedOk P from l → AskedOk P from (record l { past = [] })
+  without-past (Agent g) l k = k
+  without-past (Site c) l k = k
+  without-past Director l k = k
+  without-past (Client c) l k = k
+  without-past (Scanner c) l k = k
+
   -- it waits for its term
-  waits-agent : arrival a.start (term_in a.decided) l ≡ Waits → AgentHandler P n (becomes (record a { waiting = a.waiting ++ record { from = from; letter = l } ∷ [] }))
-  waits-agent e = plain-agent P n (becomes (record a { waiting = a.waiting ++ record { from = from; letter = l } ∷ [] })) left
+  waits-agent : arrival a.start (term_in a.decided) l ≡ Waits → AgentHandler P n (becomes (record a { waiting = a.waiting ++ record { from = from; letter = record l { past = [] } } ∷ [] }))
+  waits-agent e = plain-agent P n (becomes (record a { waiting = a.waiting ++ record { from = from; letter = record l { past = [] } } ∷ [] })) left
       (waits-event S.words n from l ls H.words up is e) (record {
         start = refl;
         decided = refl;
@@ -148,7 +156,7 @@ module _ (E : Database) (S : LogState) (n stamp : ℕ) (from : Actor) (l : Lette
         sites = λ c. tt;
         asked = λ g. tt;
         heard = λ u c i. left.loads.heard n c u i;
-        waiting = all-append (λ x. AskedOk P x.from x.letter) a.waiting (record { from = from; letter = l } ∷ []) (left.loads.waiting n) (asks, tt);
+        waiting = all-append (λ x. AskedOk P x.from x.letter) a.waiting (record { from = from; letter = record l { past = [] } } ∷ []) (left.loads.waiting n) (without-past from l asks, tt);
         queued = left.loads.queued n;
       })
 

@@ -1,5 +1,7 @@
 -- The handler of a message that an agent takes, and what it says of a new word: what holds besides that of words, holds after it.
-use Rattle.log_laws.proofs.Names.{◌≡◌, ◌<◌, Bool, true, false, List, [], ◌++◌, refl, sym, subst, inl, inr, ◌==◌, eqb-true, ℕ, if◌then◌else◌, Option, Some, None, AllByRecursion, Membership, Actor, Agent, Site, Database, Deployment, is_in, union, with_lost, with_number, Letter, Turn, becomes, ◌▸◌, AgentState, Queued, Job_, Admission, new_agent, stops_with_host, agent_handler, on_closed, on_word, on_decided, In, all-mono, all-append, all-at, all-from, in-left, in-cases, in-with_number, Calm, SaysNoWord, asked_by, loaded_by, handler-calm, stops_with_host-say, tells-state, on_decided-joiner, WordsTurn, cond_both, LogState, LoadedOk, AskedOk, QueuedLoadedOk, AllLoaded}
+use Rattle.cluster_model.specs.Agent.{takes_word, is_passed_over}
+use Rattle.cluster_model.specs.AgentState.{stops_with_host}
+use Rattle.log_laws.proofs.Names.{◌≡◌, ◌<◌, Bool, true, false, List, [], ◌++◌, refl, sym, subst, inl, inr, ◌==◌, eqb-true, ℕ, if◌then◌else◌, Option, Some, None, AllByRecursion, Membership, Actor, Agent, Site, Database, Deployment, is_in, union, with_lost, with_number, Letter, Turn, becomes, ◌▸◌, AgentState, Queued, ToRun, Admission, new_agent, agent_handler, on_closed, on_word, on_decided, In, all-mono, all-append, all-at, all-from, in-left, in-cases, in-with_number, Calm, SaysNoWord, asked_by, loaded_by, handler-calm, stops_with_host-say, tells-state, on_decided-joiner, WordsTurn, cond_both, LogState, LoadedOk, AskedOk, QueuedLoadedOk, AllLoaded}
 use Rattle.volt_wire.specs.declared.message.Msg.TheVariants as msg
 use Rattle.word_laws.specs.Histories as word
 use Rattle.word_laws.proofs.Turns.{tells}
@@ -126,10 +128,10 @@ module _ (S : LogState) (n : ℕ) (r : Rest S) (up : 0 < word.agent_start S.word
   -- ---- a handler that brings a joiner no word
 
   handler-agent : (E : Database) (stamp : ℕ) (from : Actor) (l : Letter) → (BringsDecided from l → ⊥) → AskedOk S from l
-      → WordsTurn (MayJoin S) S.words n (agent_handler E S.words.deployment n stamp (S.words.agents n) from l ▸ tells n (S.words.agents n).own)
-      → AgentHandler S n (agent_handler E S.words.deployment n stamp (S.words.agents n) from l ▸ tells n (S.words.agents n).own)
+      → WordsTurn (MayJoin S) S.words n (agent_handler E S.words.deployment n stamp (S.words.agents n) from l ▸ tells S.words.deployment n (S.words.agents n).own)
+      → AgentHandler S n (agent_handler E S.words.deployment n stamp (S.words.agents n) from l ▸ tells S.words.deployment n (S.words.agents n).own)
   handler-agent E stamp from l none asked handler =
-      plain-agent S n (t ▸ tells n (S.words.agents n).own) r handler (tells-plain S n t (S.words.agents n).own (record {
+      plain-agent S n (t ▸ tells S.words.deployment n (S.words.agents n).own) r handler (tells-plain S n t (S.words.agents n).own (record {
         start = k.start;
         decided = k.decided;
         taken = k.taken;
@@ -147,26 +149,26 @@ module _ (S : LogState) (n : ℕ) (r : Rest S) (up : 0 < word.agent_start S.word
       k = handled E stamp from l none asked
 
       waits : (q : Queued) → In q t.state.initiating.queue → QueuedLoadedOk S q
-      waits (Job_ job) i = tt
+      waits (ToRun job) i = tt
       waits (Admission j h term) i = may-join from l asked j h term (k.queue j h term i)
 
   -- ---- Decided
 
   -- what follows a turn
   abbrev pub told : Turn AgentState → Turn AgentState
-  told t = t ▸ tells n (S.words.agents n).own
+  told t = t ▸ tells S.words.deployment n (S.words.agents n).own
 
   unchanged : WordsTurn (MayJoin S) S.words n (told (becomes (S.words.agents n))) → AgentHandler S n (told (becomes (S.words.agents n)))
   unchanged handler = plain-agent S n (told (becomes (S.words.agents n))) r handler (tells-plain S n (becomes (S.words.agents n)) (S.words.agents n).own (stay-plain S n r))
 
   stops-then : WordsTurn (MayJoin S) S.words n (told (stops_with_host S.words.deployment n (word.agent_start S.words n)))
       → AgentHandler S n (told (stops_with_host S.words.deployment n (word.agent_start S.words n)))
-  stops-then handler = stopped-agent S n (told (stops_with_host S.words.deployment n (word.agent_start S.words n))) r handler (tells-state n (S.words.agents n).own (new_agent 0))
+  stops-then handler = stopped-agent S n (told (stops_with_host S.words.deployment n (word.agent_start S.words n))) r handler (tells-state S.words.deployment n (S.words.agents n).own (new_agent 0))
       (λ c. all-append NoView _ _ (stops-plain (word.agent_start S.words n) _ (stops_with_host-say S.words.deployment n (word.agent_start S.words n) (Site c))) (says.sites c))
       (λ g. all-append NoAdmit _ _ (stops-none (word.agent_start S.words n) _ (stops_with_host-say S.words.deployment n (word.agent_start S.words n) (Agent g))) (says.agents g))
     where
-      says : Tells [] (tells n (S.words.agents n).own (new_agent 0))
-      says = tells-says n (S.words.agents n).own (new_agent 0)
+      says : Tells [] (tells S.words.deployment n (S.words.agents n).own (new_agent 0))
+      says = tells-says S.words.deployment n (S.words.agents n).own (new_agent 0)
 
   decided-agent : (w : Membership) → word.WordsHold S.words
       → WordsTurn (MayJoin S) S.words n (told (on_decided S.words.deployment n (S.words.agents n) (S.words.agents n).decided (S.words.agents n).taken w))
@@ -177,7 +179,12 @@ module _ (S : LogState) (n : ℕ) (r : Rest S) (up : 0 < word.agent_start S.word
           → WordsTurn (MayJoin S) S.words n (told (on_decided S.words.deployment n (S.words.agents n) d t w))
           → AgentHandler S n (told (on_decided S.words.deployment n (S.words.agents n) d t w))
       go (Some d) t e f = unchanged
-      go None None e f = takes-agent S n w h r up e f
+      go None None e f = passed (is_passed_over (word.agent_start S.words n) w)
+        where
+          passed : (c : Bool) → WordsTurn (MayJoin S) S.words n (told (if c then stops_with_host S.words.deployment n (word.agent_start S.words n) else takes_word S.words.deployment n (S.words.agents n) w))
+              → AgentHandler S n (told (if c then stops_with_host S.words.deployment n (word.agent_start S.words n) else takes_word S.words.deployment n (S.words.agents n) w))
+          passed true = stops-then
+          passed false = takes-agent S n w h r up e f
       go None (Some t) e f = elim (on_decided-joiner S.words.deployment n (S.words.agents n) t w) [
         | inl s ↦ subst (λ z. WordsTurn (MayJoin S) S.words n (told z) → AgentHandler S n (told z)) (sym s) stops-then
         | inr s ↦ subst (λ z. WordsTurn (MayJoin S) S.words n (told z) → AgentHandler S n (told z)) (sym s) unchanged

@@ -1,5 +1,5 @@
 -- What an agent says to sites and to agents as it tells its word and as it stops: to sites neither a start nor a word.
-use Rattle.log_laws.proofs.Names.{◌≡◌, Bool, true, false, List, [], refl, ◌==◌, ℕ, ◌&&◌, not, if◌then◌else◌, Option, Some, None, AllByRecursion, Membership, Agent, Site, start_of, is_member, Letter, Turn, becomes, AgentState, says, word_to, is_other_word, all-if, all-mono, StopsSay}
+use Rattle.log_laws.proofs.Names.{◌≡◌, Bool, true, false, List, [], refl, ◌==◌, ℕ, ◌&&◌, not, if◌then◌else◌, Option, Some, None, AllByRecursion, Deployment, Membership, Agent, Site, is_host, start_of, is_member, Letter, Turn, becomes, AgentState, says, word_to, is_other_word, all-if, all-mono, StopsSay}
 use Rattle.volt_wire.specs.declared.message.Msg.TheVariants as msg
 use Rattle.word_laws.proofs.Turns.{tells}
 
@@ -19,20 +19,20 @@ pub record Tells (loaded : List ℕ) (t : Turn AgentState) : Type 0 where
   pub sites : (c : ℕ) → AllByRecursion NoView (t.sends (Site c))
   pub agents : (g : ℕ) → AllByRecursion NoAdmit (t.sends (Agent g))
 
-pub tells-says : (n : ℕ) (before : Option Membership) (a : AgentState) → Tells a.loaded (tells n before a)
-tells-says n before a = choice (is_other_word before a.own) a.own
+pub tells-says : (D : Deployment) (n : ℕ) (before : Option Membership) (a : AgentState) → Tells a.loaded (tells D n before a)
+tells-says D n before a = choice (is_other_word before a.own) a.own
   where
     one : (w : Membership) (start : Option ℕ) → AllByRecursion NoAdmit (word_to w start)
     one w None = tt
     one w (Some start) = (tt, tt)
 
-    choice : (c : Bool) (own : Option Membership) → Tells a.loaded (if c then says n a own else becomes a)
+    choice : (c : Bool) (own : Option Membership) → Tells a.loaded (if c then says D n a own else becomes a)
     choice false own = record { same = refl; sites = λ c. tt; agents = λ g. tt }
     choice true None = record { same = refl; sites = λ c. tt; agents = λ g. tt }
     choice true (Some w) = record {
       same = refl;
       sites = λ c. tt;
-      agents = λ g. all-if NoAdmit (is_member w n a.start && not (g == n)) (word_to w (start_of w g)) [] (one w (start_of w g)) tt;
+      agents = λ g. all-if NoAdmit (is_member w n a.start && is_host D g && not (g == n)) (word_to w (start_of w g)) [] (one w (start_of w g)) tt;
     }
 
 -- ---- an agent that stops

@@ -192,14 +192,14 @@ pub stay-agent : (S : LogState) (n : ℕ) → word.WordsHold S.words → Rest S 
 stay-agent S n h r up = plain-agent S n (becomes (S.words.agents n)) r (stay-handler S.words n (inl (refl, up)) h) (stay-plain S n r)
 
 -- it says its word to the others
-pub tells-plain : (S : LogState) (n : ℕ) (t : Turn AgentState) (before : Option Membership) → PlainTurn S n t → PlainTurn S n (t ▸ tells n before)
-tells-plain S n t before p = let calls = tells-says n before t.state in let same = tells-state n before t.state in record {
+pub tells-plain : (S : LogState) (n : ℕ) (t : Turn AgentState) (before : Option Membership) → PlainTurn S n t → PlainTurn S n (t ▸ tells S.words.deployment n before)
+tells-plain S n t before p = let calls = tells-says S.words.deployment n before t.state in let same = tells-state S.words.deployment n before t.state in record {
   start = ap (λ x. x.start) same ∙ p.start;
   decided = ap (λ x. x.decided) same ∙ p.decided;
   taken = ap (λ x. x.taken) same ∙ p.taken;
-  sites = λ c. all-append NoView (t.sends (Site c)) ((tells n before t.state).sends (Site c)) (p.sites c) (calls.sites c);
-  asked = λ g. all-append (AskedOk S (Agent n)) (t.sends (Agent g)) ((tells n before t.state).sends (Agent g)) (p.asked g)
-      (all-mono NoAdmit (AskedOk S (Agent n)) (none-asked S n) ((tells n before t.state).sends (Agent g)) (calls.agents g));
+  sites = λ c. all-append NoView (t.sends (Site c)) ((tells S.words.deployment n before t.state).sends (Site c)) (p.sites c) (calls.sites c);
+  asked = λ g. all-append (AskedOk S (Agent n)) (t.sends (Agent g)) ((tells S.words.deployment n before t.state).sends (Agent g)) (p.asked g)
+      (all-mono NoAdmit (AskedOk S (Agent n)) (none-asked S n) ((tells S.words.deployment n before t.state).sends (Agent g)) (calls.agents g));
   heard = λ u c i. p.heard u c (subst (λ x. is_in c x ≡ true) calls.same i);
   waiting = rw same p.waiting;
   queued = rw same p.queued;

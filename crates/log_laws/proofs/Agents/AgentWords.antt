@@ -1,6 +1,8 @@
 -- An agent starts, takes its first word as a joiner, or decides a word: what holds besides that of words, holds after it.
-use Rattle.log_laws.proofs.Names.{◌≡◌, ◌<◌, ◌≤◌, Bool, true, false, List, [], ◌∷◌, ◌++◌, append_assoc, append-nil, refl, sym, subst, ap, ◌∙◌, ◌⊎◌, inl, inr, ◌==◌, arith, true≢false, and_parts, cases_Bool, eqb-true, ℕ, filter, ◌&&◌, not, if◌then◌else◌, nat_lt, Some, None, AllByRecursion, Membership, Agent, Site, slots, host_of_slot, start_of, is_slot_of, is_in, is_down, term_of, Letter, Sends, Turn, becomes, ◌▸◌, open_letter, letter_to, AgentState, new_agent, initiates, takes_word, decides_word, may_decide, In, names, all-mono, all-append, some-here, none-and-some, in-none, is_member-start, WordsTurn, handler-grows, agent-there, decides-handler, with_began, start-grows, Decides, decides-state, decides-sends, may_decide-cases, tells-state, concludes, concludes-not, concludes-is, cond_both, LogState, LoadedOk, AskedOk, ForeignOk, sent_term, site_start, views}
+use Rattle.log_laws.proofs.Names.{◌≡◌, ◌<◌, ◌≤◌, Bool, true, false, List, [], ◌∷◌, ◌++◌, append_assoc, append-nil, refl, sym, subst, ap, ◌∙◌, ◌⊎◌, inl, inr, ◌==◌, arith, true≢false, and_parts, cases_Bool, eqb-true, ℕ, ◌&&◌, not, if◌then◌else◌, nat_lt, Some, None, AllByRecursion, Membership, Actor, Agent, Site, slots, host_of_slot, start_of, is_slot_of, is_in, is_down, term_of, Letter, Sends, Turn, becomes, ◌▸◌, open_letter, letter_to, AgentState, new_agent, initiates, takes_word, decides_word, may_decide, In, names, all-mono, all-append, some-here, none-and-some, in-none, is_member-start, WordsTurn, handler-grows, agent-there, decides-handler, with_began, start-grows, Decides, decides-state, decides-sends, may_decide-cases, tells-state, concludes, concludes-not, concludes-is, cond_both, LogState, LoadedOk, AskedOk, ForeignOk, sent_term, site_start, views}
 use Rattle.volt_wire.specs.declared.message.Msg.TheVariants as msg
+use Rattle.cluster_model.specs.Agent.{asks_again, asked_again}
+use Rattle.word_laws.proofs.Turns.{IsRequest, request-cases, asks_again-requests, DecidedOrRequest}
 use Rattle.word_laws.specs.Histories as word
 use Rattle.word_laws.proofs.Turns.{tells}
 use Rattle.log_laws.proofs.Agents.AgentSends.{NoView, NoAdmit, Tells, tells-says}
@@ -38,13 +40,13 @@ module _ (S : LogState) (n : ℕ) (w : Membership) (h : word.WordsHold S.words) 
 
   -- it says no other word to its sites behind that
   abbrev takes : Turn AgentState
-  takes = record { state = joiner; sends = λ b. (takes_word S.words.deployment n a w).sends b ++ (tells n a.own joiner).sends b }
+  takes = record { state = joiner; sends = λ b. (takes_word S.words.deployment n a w).sends b ++ (tells S.words.deployment n a.own joiner).sends b }
 
-  takes-is : takes_word S.words.deployment n a w ▸ tells n a.own ≡ takes
-  takes-is = ap {A = AgentState} {B = Turn AgentState} (λ x. record { state = x; sends = takes.sends }) (tells-state n a.own joiner)
+  takes-is : takes_word S.words.deployment n a w ▸ tells S.words.deployment n a.own ≡ takes
+  takes-is = ap {A = AgentState} {B = Turn AgentState} (λ x. record { state = x; sends = takes.sends }) (tells-state S.words.deployment n a.own joiner)
 
-  calls : Tells a.loaded (tells n a.own joiner)
-  calls = tells-says n a.own joiner
+  calls : Tells a.loaded (tells S.words.deployment n a.own joiner)
+  calls = tells-says S.words.deployment n a.own joiner
 
   abbrev ls : ℕ → List Letter
   ls c = S.words.channel (Agent n) (Site c)
@@ -72,30 +74,30 @@ module _ (S : LogState) (n : ℕ) (w : Membership) (h : word.WordsHold S.words) 
         (λ u t d. absurd (none-and-some t refl))
         (λ u. (subst (AllByRecursion (λ v. term_of v ≤ sent_term joiner)) (sym (none c e).2) tt, λ q. absurd (other c e q)))
 
-    started : (c : ℕ) → host_of_slot S.words.deployment c ≡ n → (b : Bool) → ViewsIn T c n joiner (ls c ++ ((if b then first else []) ++ (tells n a.own joiner).sends (Site c)))
-    started c e false = views-plainly T c n joiner (ls c) (before c e) ((tells n a.own joiner).sends (Site c)) (calls.sites c)
-    started c e true = subst (ViewsIn T c n joiner) (append_assoc (ls c) first ((tells n a.own joiner).sends (Site c)))
+    started : (c : ℕ) → host_of_slot S.words.deployment c ≡ n → (b : Bool) → ViewsIn T c n joiner (ls c ++ ((if b then first else []) ++ (tells S.words.deployment n a.own joiner).sends (Site c)))
+    started c e false = views-plainly T c n joiner (ls c) (before c e) ((tells S.words.deployment n a.own joiner).sends (Site c)) (calls.sites c)
+    started c e true = subst (ViewsIn T c n joiner) (append_assoc (ls c) first ((tells S.words.deployment n a.own joiner).sends (Site c)))
         (views-plainly T c n joiner (ls c ++ first)
         (views-start T c n joiner (ls c) (before c e) w up (none c e) ((handler-grows handler).began n a.start (has-begun S n h up)) (agent-ok S n takes handler).taken.0 refl
         (rw decided refl) (other c e))
-        ((tells n a.own joiner).sends (Site c)) (calls.sites c))
+        ((tells S.words.deployment n a.own joiner).sends (Site c)) (calls.sites c))
 
     rest : Rest T
     rest = rest-turned S n joiner takes.sends handler.history r (record {
       grows = handler-grows handler;
       views = λ c e. started c e (is_slot_of S.words.deployment n c);
-      foreign = λ c. all-append (ForeignOk S c (Agent n)) (if is_slot_of S.words.deployment n c then first else []) ((tells n a.own joiner).sends (Site c))
-          (foreign c (is_slot_of S.words.deployment n c) refl) (plain-foreign S c n ((tells n a.own joiner).sends (Site c)) (calls.sites c));
+      foreign = λ c. all-append (ForeignOk S c (Agent n)) (if is_slot_of S.words.deployment n c then first else []) ((tells S.words.deployment n a.own joiner).sends (Site c))
+          (foreign c (is_slot_of S.words.deployment n c) refl) (plain-foreign S c n ((tells S.words.deployment n a.own joiner).sends (Site c)) (calls.sites c));
       loads = record {
         heard = λ u c i. r.loads.heard n c up i;
-        asked = λ g. all-mono NoAdmit (AskedOk S (Agent n)) (none-asked S n) ((tells n a.own joiner).sends (Agent g)) (calls.agents g);
+        asked = λ g. all-mono NoAdmit (AskedOk S (Agent n)) (none-asked S n) ((tells S.words.deployment n a.own joiner).sends (Agent g)) (calls.agents g);
         waiting = r.loads.waiting n;
         queued = r.loads.queued n;
         admitted = handler-admits S n takes r handler;
       };
     })
 
-  pub takes-agent : WordsTurn (MayJoin S) S.words n (takes_word S.words.deployment n a w ▸ tells n a.own) → AgentHandler S n (takes_word S.words.deployment n a w ▸ tells n a.own)
+  pub takes-agent : WordsTurn (MayJoin S) S.words n (takes_word S.words.deployment n a w ▸ tells S.words.deployment n a.own) → AgentHandler S n (takes_word S.words.deployment n a w ▸ tells S.words.deployment n a.own)
   takes-agent handler = let k = subst (WordsTurn (MayJoin S) S.words n) takes-is handler in subst (AgentHandler S n) (sym takes-is) (record { handler = k; rest = rest k })
 
 -- ---- a member decides its word
@@ -116,10 +118,21 @@ module _ (S : LogState) (n : ℕ) (v : Membership) (h : word.WordsHold S.words) 
   same-loaded = cond_both (initiates n was (Some v)) _ _ (λ (z : AgentState). z.loaded ≡ was.loaded) (λ _. refl) (λ _. refl)
     where
       decided : AgentState
-      decided = record was { decided = Some v; pending = filter (λ p. not (is_in p.target v.lost)) was.pending }
+      decided = record was { decided = Some v; pending = asked_again S.words.deployment v was.pending }
 
   abbrev channel-to : ℕ → List Letter
   channel-to c = S.words.channel (Agent n) (Site c)
+
+  -- the calls that it asks again for
+  abbrev again : Actor → List Letter
+  again b = asks_again S.words.deployment was.start v was.pending b
+
+  again-all : (P : Letter → Type 0) (b : Actor) → ((l : Letter) (call start client : ℕ) (body : List ℕ) → P (record l { body = msg.SpCall call start client body }))
+      → ((l : Letter) (call start client : ℕ) (body : List ℕ) → P (record l { body = msg.MpCall call start client body })) → AllByRecursion P (again b)
+  again-all P b sp mp = all-mono IsRequest P (request-cases P sp mp) (again b) (asks_again-requests S.words.deployment was.start v was.pending b)
+
+  abbrev viewed : ℕ → List Letter
+  viewed c = if is_slot_of S.words.deployment n c && not (is_down S.words.deployment v) then letter_to was.start (msg.View v) ∷ [] else []
 
   to-site : (c : ℕ) (b : Bool) → (is_slot_of S.words.deployment n c && not (is_down S.words.deployment v)) ≡ b
       → AllByRecursion (ForeignOk S c (Agent n)) (if b then letter_to was.start (msg.View v) ∷ [] else [])
@@ -164,12 +177,17 @@ module _ (S : LogState) (n : ℕ) (v : Membership) (h : word.WordsHold S.words) 
     pub decides-rest : Rest U
     decides-rest = rest-turned S n decides.state decides.sends handler.history r (record {
       grows = handler-grows handler;
-      views = λ c e. seen c e (is_slot_of S.words.deployment n c && not (is_down S.words.deployment v));
-      foreign = λ c. to-site c (is_slot_of S.words.deployment n c && not (is_down S.words.deployment v)) refl;
+      views = λ c e. subst (ViewsIn U c n decides.state) (append_assoc (channel-to c) (viewed c) (again (Site c)))
+          (views-plainly U c n decides.state (channel-to c ++ viewed c) (seen c e (is_slot_of S.words.deployment n c && not (is_down S.words.deployment v))) (again (Site c))
+          (again-all NoView (Site c) (λ l call start client body. tt) (λ l call start client body. tt)));
+      foreign = λ c. all-append (ForeignOk S c (Agent n)) (viewed c) (again (Site c)) (to-site c (is_slot_of S.words.deployment n c && not (is_down S.words.deployment v)) refl)
+          (again-all (ForeignOk S c (Agent n)) (Site c) (λ l call start client body. tt) (λ l call start client body. tt));
       loads = record {
         heard = λ u c i. subst (LoadedOk S c) (sym state.start) (r.loads.heard n c up (subst (λ x. is_in c x ≡ true) same-loaded i));
-        asked = λ g. all-mono (λ l. l ≡ open_letter (msg.Decided v)) (AskedOk S (Agent n)) (λ l e. subst (AskedOk S (Agent n)) (sym e) tt) (decides.sends (Agent g))
-            (decides-sends S.words.deployment n was v g);
+        asked = λ g. all-mono (DecidedOrRequest v) (AskedOk S (Agent n)) (λ l e. elim e [
+          | inl i ↦ subst (AskedOk S (Agent n)) (sym i) tt
+          | inr r ↦ request-cases (AskedOk S (Agent n)) (λ l call start client body. tt) (λ l call start client body. tt) l r
+        ]) (decides.sends (Agent g)) (decides-sends S.words.deployment n was v g);
         waiting = rw state.waiting (r.loads.waiting n);
         queued = rw state.queue (r.loads.queued n);
         admitted = handler-admits S n decides r handler;

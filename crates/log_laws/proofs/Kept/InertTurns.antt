@@ -1,5 +1,7 @@
 -- Turns of a site in which nothing changes that is looked at: what holds, holds after them.
 use Rattle.log_laws.proofs.Names.{◌≡◌, Bool, true, false, List, [], ◌∷◌, refl, ◌==◌, ℕ, ◌&&◌, ◌+◌, not, nat_lt, if◌then◌else◌, replicate, Option, Some, None, AllByRecursion, Outcome, Actor, Director, Agent, Site, Database, Deployment, part_of_slot, Letter, Sends, Turn, becomes, sending, only, letter_in, open_in, last_done, nothing_open, SiteState, AskedCall, site_term, leads, is_joiner, tells_initiator, is_first_term, has_all_on_disk, initiator_in, shows, looked, on_look, on_power, all-from, all-if, all-mono, term_of, subst, sym, LogState, LogsHold, HeldOk, SiteLetterOk, ToldOk, site_start, end_of, end_in}
+use Rattle.volt_base.specs.declared.entry.LastReply.{LastReply}
+use Rattle.cluster_model.specs.Replies.{last_replies}
 use Rattle.volt_wire.specs.declared.message.Msg.TheVariants as msg
 use Rattle.cluster_model.specs.Site.{tells, standing}
 use Rattle.log_laws.proofs.Kept.Moves.{after_site, LogsGo}
@@ -131,17 +133,17 @@ tells-goes E D S i H = goes-if S i (leads D i s && not s.has_told && not (is_fir
     s : SiteState
     s = S.sites i
 
-    stands : (h term start : ℕ) (o : Option ℕ) (last : Option (ℕ × Outcome)) → Silent (Agent h) (letter_in term start (standing o last))
-    stands h term start (Some m) last = tt
-    stands h term start None None = tt
-    stands h term start None (Some last) = tt
+    stands : (h term start : ℕ) (o : Option ℕ) (last : Option (ℕ × Outcome)) (replies : List LastReply) → Silent (Agent h) (letter_in term start (standing o last replies))
+    stands h term start (Some m) last replies = tt
+    stands h term start None None replies = tt
+    stands h term start None (Some last) replies = tt
 
     told : (o : Option (ℕ × ℕ)) → LogsGo S i (tells_initiator E D i s o)
     told None = goes-same S i H
     told (Some first) = inert-goes S i (tells_initiator E D i s (Some first)) H
         (record { same = refl; held = λ k. k })
-        (silent-only first.0 (letter_in (site_term s) first.1 (standing (open_in s.log) (last_done E (part_of_slot D i) s.log)))
-        (stands first.0 (site_term s) first.1 (open_in s.log) (last_done E (part_of_slot D i) s.log)))
+        (silent-only first.0 (letter_in (site_term s) first.1 (standing (open_in s.log) (last_done E (part_of_slot D i) s.log) (last_replies E (part_of_slot D i) s.log)))
+        (stands first.0 (site_term s) first.1 (open_in s.log) (last_done E (part_of_slot D i) s.log) (last_replies E (part_of_slot D i) s.log)))
 
 -- a look is answered
 pub shows-goes : (E : Database) (D : Deployment) (S : LogState) (i : ℕ) → LogsHold S → LogsGo S i (shows E D i (S.sites i))

@@ -1,5 +1,5 @@
 -- What is kept from one state to a later one.
-use Rattle.log_laws.proofs.Names.{◌≡◌, ◌<◌, List, refl, sym, subst, ap, ◌∙◌, ◌⊎◌, inl, inr, ◌==◌, arith, ℕ, ◌≤◌, max, length, Option, Some, None, AllByRecursion, list_any, Entry, Membership, Actor, Agent, Site, start_of_slot, leader, Letter, Waiting, Queued, Job_, Admission, Joiner, Joining, In, Prefix, all-mono, none-and-some, same-some, prefix-length, prefix-refl, prefix-trans, Distinct, is_leader, map, Ask, SiteState, site_term, [], true, LogState, Logs, epoch_base, LogsHold, HasBeen, WasIn, AckOk, ReportOk, AsksToJoin, CountedOk, EndOk, MeantFor, LoadedOk, BeginsAt, SiteLetterOk, SiteWaitingFrom, SiteWaitingOk, ToldOk, AskedOk, QueuedLoadedOk, LoadsOk, IsSlot, AllLoaded, Entered, Streaming, Leadership, EnteredOk, StreamedOk, LeadershipOk, UnledOk, Last, Came, IsCounted, WordOf, part, site_start, log_at, term_at, flow, between, HeldOk, KeepsOk, asked}
+use Rattle.log_laws.proofs.Names.{◌≡◌, ◌<◌, List, refl, sym, subst, ap, ◌∙◌, ◌⊎◌, inl, inr, ◌==◌, arith, ℕ, ◌≤◌, max, length, Option, Some, None, AllByRecursion, list_any, Entry, Membership, Actor, Agent, Site, start_of_slot, leader, Letter, Waiting, Queued, ToRun, Admission, Joiner, Joining, In, Prefix, all-mono, none-and-some, same-some, prefix-length, prefix-refl, prefix-trans, Distinct, is_leader, map, Ask, SiteState, site_term, [], true, LogState, Logs, epoch_base, LogsHold, HasBeen, WasIn, AckOk, ReportOk, AsksToJoin, CountedOk, EndOk, MeantFor, LoadedOk, BeginsAt, SiteLetterOk, SiteWaitingFrom, SiteWaitingOk, ToldOk, AskedOk, QueuedLoadedOk, LoadsOk, IsSlot, AllLoaded, Entered, Streaming, Leadership, EnteredOk, StreamedOk, LeadershipOk, UnledOk, Last, Came, IsCounted, WordOf, part, site_start, log_at, term_at, flow, between, HeldOk, KeepsOk, asked}
 use Rattle.volt_wire.specs.declared.message.Msg.TheVariants as msg
 use Rattle.log_laws.proofs.Kept.Moves.{LogsLater, EntersNow, Stays, JoinsOn, SameLeaderships}
 use Rattle.log_laws.proofs.Plain.{none-or-some}
@@ -274,7 +274,7 @@ module _ (S T : LogState) (H : LogsHold S) (f : LogsLater S T) where
   asked-later from l k = tt
 
   pub queued-later : (q : Queued) → QueuedLoadedOk S q → QueuedLoadedOk T q
-  queued-later (Job_ job) k = tt
+  queued-later (ToRun job) k = tt
   queued-later (Admission a h term) k = all_loaded-later h a k
 
   -- ---- terms

@@ -1,5 +1,5 @@
 -- Copies of a partition by a word, and who leads them.
-use Rattle.log_laws.proofs.Names.{◌≡◌, ◌+◌, ◌<◌, ◌≤◌, zero, suc, true, false, List, [], ◌∷◌, refl, sym, subst, ap, ◌∙◌, ◌⊎◌, inl, inr, ◌==◌, true≢false, arith, cases_eq, and_parts, and_from, not-true, not_from_true, not_from_false, eqb-true, eq-eqb, false_from_ne_true, ℕ, ◌||◌, not, map, option_map, unwrap_or, is_some, Option, Some, None, list_any, range_with_len, cons_option, Membership, slot_of, part_of, host_of, slots_of_part, start_in, ordered_copies, same_copies, Deployment, part_of_slot, is_in, members, start_of_slot, copies, leader, first_of, is_some_of, SiteState, is_joiner, leader_in, start_in_view, copies_in, is_leader, other_copies, In, eqb-same, same-some, in-filter, filter-in, list_any-in, list_any-from, is_some_of-is, first-in, not-joiner, follows, between}
+use Rattle.log_laws.proofs.Names.{◌≡◌, ◌+◌, ◌<◌, ◌≤◌, zero, suc, true, false, List, [], ◌∷◌, refl, sym, subst, ap, ◌∙◌, ◌⊎◌, inl, inr, ◌==◌, true≢false, arith, cases_eq, and_parts, and_from, not-true, not_from_true, not_from_false, eqb-true, eq-eqb, false_from_ne_true, ℕ, ◌||◌, not, map, unwrap_or, is_some, Some, None, list_any, range_with_len, Membership, slot_of, part_of, slots_of_part, ordered_copies, same_copies, Deployment, part_of_slot, is_in, members, start_of_slot, copies, leader, first_of, is_some_of, SiteState, is_joiner, leader_in, start_in_view, copies_in, is_leader, other_copies, In, eqb-same, same-some, in-filter, filter-in, list_any-in, list_any-from, is_some_of-is, first-in, standing-in, in-standing, not-joiner, follows}
 use Rattle.partition_ring.specs.Placement.{standing}
 
 -- ---- numbers in lists
@@ -30,33 +30,6 @@ slots-part k p c i = let r = in-range c (slot_of k p 0) (k + 1) i in between r.0
     between l h = grind arith
 
 -- ---- copies that stand
-
-module _ (hosts : ℕ) (ms : List (ℕ × ℕ)) where
-  abbrev stands : ℕ → Option (ℕ × ℕ)
-  stands slot = option_map (λ start. (start, slot)) (start_in ms (host_of hosts slot))
-
-  standing-in : (c a : ℕ) (slots : List ℕ) → In c slots → start_in ms (host_of hosts c) ≡ Some a → In (a, c) (standing hosts ms slots)
-  standing-in c a [] i e = absurd i
-  standing-in c a (s ∷ slots) (inl q) e =
-      let here : stands s ≡ Some (a, c) = ap stands q ∙ ap (option_map (λ start. (start, c))) e in rw here (inl refl)
-  standing-in c a (s ∷ slots) (inr i) e = behind (stands s) (standing-in c a slots i e)
-    where
-      behind : (o : Option (ℕ × ℕ)) → In (a, c) (standing hosts ms slots) → In (a, c) (cons_option o (standing hosts ms slots))
-      behind None k = k
-      behind (Some m) k = inr k
-
-  in-standing : (c a : ℕ) (slots : List ℕ) → In (a, c) (standing hosts ms slots) → In c slots × (start_in ms (host_of hosts c) ≡ Some a)
-  in-standing c a [] i = absurd i
-  in-standing c a (s ∷ slots) i = choice (start_in ms (host_of hosts s)) refl i (in-standing c a slots)
-    where
-      choice : (o : Option ℕ) → start_in ms (host_of hosts s) ≡ o → In (a, c) (cons_option (option_map (λ start. (start, s)) o) (standing hosts ms slots))
-          → (In (a, c) (standing hosts ms slots) → In c slots × (start_in ms (host_of hosts c) ≡ Some a))
-          → In c (s ∷ slots) × (start_in ms (host_of hosts c) ≡ Some a)
-      choice None e k f = let r = f k in (inr r.0, r.1)
-      choice (Some b) e (inr k) f = let r = f k in (inr r.0, r.1)
-      choice (Some b) e (inl q) f =
-          let p : b ≡ a = ap (λ m. m.0) q in let r : s ≡ c = ap (λ m. m.1) q in
-          (inl r, ap (λ x. start_in ms (host_of hosts x)) (sym r) ∙ e ∙ ap Some p)
 
 module _ (D : Deployment) (w : Membership) where
   -- the copies that stand, and those of them that are copies in order

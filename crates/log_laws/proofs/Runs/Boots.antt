@@ -1,4 +1,6 @@
 -- How an epoch begins: all holds of logs in the first world, and once a recovery has worked.
+use Rattle.volt_base.specs.declared.entry.LastReply.{LastReply}
+use Rattle.cluster_model.specs.World.{greatest_replies}
 use Rattle.log_laws.proofs.Names.{◌≡◌, ◌+◌, ◌<◌, ◌≤◌, Bool, true, false, List, [], ◌∷◌, append-nil, refl, sym, subst, ap, ◌∙◌, inl, inr, ◌==◌, arith, zero, suc, and_parts, and_from, cases_Bool, eq-eqb, eqb-true, false≢true, nat_tests, mod_below, ℕ, ◌*◌, ◌&&◌, not, nat_lt, if◌then◌else◌, length, map, Some, None, AllByRecursion, Entry, Membership, Actor, Director, Client, Agent, Site, Database, Deployment, slots, parts, part_of_slot, host_of_slot, is_host, is_in, term_of, copies, start_of_slot, Letter, AgentState, new_agent, starts_in, SiteState, site_term, is_joiner, is_member_site, no_site, stopped_site, member_site, World, Input, first_world, new_word, greatest_done, first_initiating, member_agent, start_from, is_of_host, new_channels, new_base, new_log, starts_anew, In, eqb-same, if-true, if-false, none-and-some, same-some, in-one, in-map-from, all-from, epoch_state, new_history, new_owner, boot-holds, recovery-holds, start_of-first, first-there, Entered, Streaming, Leadership, Logs, LogState, IsSlot, HasBeen, AckOk, EnteredOk, LeadershipOk, LeadsIn, FollowsIn, MemberOk, KeepsOk, SiteOk, ViewsOk, LoadsOk, ForeignOk, LogsHold, part, site_start, log_at, term_at, agent_to_site, between, line, views, sent_term, log_state, AuthoritativeOk, HasLogs}
 use Rattle.volt_wire.specs.declared.message.Msg.TheVariants as msg
 use Rattle.word_laws.specs.Histories as word
@@ -45,11 +47,11 @@ pub record Rests (s : SiteState) : Type 0 where
 
 -- What is so as an epoch begins: each site runs as a member of the first word with its partition's log, and each host's agent as
 -- one too. Slots outside the deployment rest, and so do agents of others than hosts. Nothing is under way between actors of hosts.
-pub record SitesBegin (D : Deployment) (base start number : ℕ) (agents : ℕ → AgentState) (channel : Actor → Actor → List Letter) (log : ℕ → List Entry)
+pub record SitesBegin (D : Deployment) (base start number : ℕ) (replies : List LastReply) (agents : ℕ → AgentState) (channel : Actor → Actor → List Letter) (log : ℕ → List Entry)
     (sites : ℕ → SiteState) : Type 0 where
   pub positive : 0 < base
   pub drawn : 0 < start
-  pub hosts : (h : ℕ) → is_host D h ≡ true → agents h ≡ member_agent (new_word D base start) number start h
+  pub hosts : (h : ℕ) → is_host D h ≡ true → agents h ≡ member_agent (new_word D base start) number replies start h
   pub environment : (h : ℕ) → is_host D h ≡ false → agents h ≡ new_agent 0
   pub members : (c : ℕ) → nat_lt c (slots D) ≡ true
       → (x : SiteState) × (sites c ≡ member_site D c x (new_word D base start) (start_from D start c) (log (part_of_slot D c)))
@@ -81,8 +83,8 @@ slot-host D c e =
 
 -- ---- what holds as an epoch begins
 
-module _ (D : Deployment) (base start number next : ℕ) (agents : ℕ → AgentState) (channel : Actor → Actor → List Letter) (owner : ℕ → ℕ)
-    (log : ℕ → List Entry) (sites : ℕ → SiteState) (words : word.WordsHold (epoch_state D base start next agents channel owner)) (k : SitesBegin D base start number agents channel log sites) where
+module _ (D : Deployment) (base start number next : ℕ) (replies : List LastReply) (agents : ℕ → AgentState) (channel : Actor → Actor → List Letter) (owner : ℕ → ℕ)
+    (log : ℕ → List Entry) (sites : ℕ → SiteState) (words : word.WordsHold (epoch_state D base start next agents channel owner)) (k : SitesBegin D base start number replies agents channel log sites) where
   abbrev T : LogState
   T = begun_state D base start next agents channel owner log sites
 
@@ -276,7 +278,7 @@ module _ (D : Deployment) (base start number next : ℕ) (agents : ℕ → Agent
   no-views : (c s : ℕ) → views s (agent_to_site T c) ≡ []
   no-views c s = ap (views s) (no-letters c)
 
-  agent-runs : (h : ℕ) → 0 < (agents h).start → agents h ≡ member_agent W number start h
+  agent-runs : (h : ℕ) → 0 < (agents h).start → agents h ≡ member_agent W number replies start h
   agent-runs h up = elim (cases_Bool (is_host D h)) [ inl q ↦ k.hosts h q | inr q ↦ absurd (omega (arith, up, ap (λ a. a.start) (k.environment h q))) ]
 
   began-first : (c s : ℕ) (x : Bool) → nat_lt c (slots D) ≡ x → In s (if x then s_of c ∷ [] else []) → In s (T.words.history.began (host_of_slot D c))
@@ -321,7 +323,7 @@ module _ (D : Deployment) (base start number next : ℕ) (agents : ℕ → Agent
   waiting-none h true q = ap (λ a. a.waiting) (k.hosts h q)
   waiting-none h false q = ap (λ a. a.waiting) (k.environment h q)
 
-  first-queue : (h : ℕ) → (first_initiating h number).queue ≡ []
+  first-queue : (h : ℕ) → (first_initiating h number replies).queue ≡ []
   first-queue zero = refl
   first-queue (suc h) = refl
 
@@ -446,11 +448,11 @@ first-logs E I positive =
       owner = new_owner 1 (λ s. 0);
       history = new_history D (new_word D I.base 1) 1;
       logs = new_logs D I.base 1 (λ p. []);
-      holds = begun-holds D I.base 1 number (D.layout.hosts + 1) w.agents w.channel (new_owner 1 (λ s. 0)) (λ p. []) w.sites (boot-holds D I.base number) (record {
+      holds = begun-holds D I.base 1 number (D.layout.hosts + 1) [] w.agents w.channel (new_owner 1 (λ s. 0)) (λ p. []) w.sites (boot-holds D I.base number []) (record {
         positive = positive;
         drawn = omega arith;
-        hosts = λ h e. if-true (is_host D h) (member_agent (new_word D I.base 1) number 1 h) (new_agent 0) e;
-        environment = λ h e. if-false (is_host D h) (member_agent (new_word D I.base 1) number 1 h) (new_agent 0) e;
+        hosts = λ h e. if-true (is_host D h) (member_agent (new_word D I.base 1) number [] 1 h) (new_agent 0) e;
+        environment = λ h e. if-false (is_host D h) (member_agent (new_word D I.base 1) number [] 1 h) (new_agent 0) e;
         members = sites-begin D I.base 1 (λ p. []) before before;
         others = λ c q. sites-rest D I.base 1 (λ p. []) before before c q (record { start = refl; term = omega arith; earlier = omega arith; joining = refl; view = refl; waiting = refl; asks = refl; joiners = refl });
         agreed = λ h g. refl;
@@ -458,7 +460,7 @@ first-logs E I positive =
         told = λ c h. refl;
         foreign = λ from e c. tt;
       });
-      strangers = λ h e. if-false (is_host D h) (member_agent (new_word D I.base 1) number 1 h) (new_agent 0) e;
+      strangers = λ h e. if-false (is_host D h) (member_agent (new_word D I.base 1) number [] 1 h) (new_agent 0) e;
       authoritative = first-authoritative D I.base 1 (λ p. []);
       counted = λ c runs _. first-counted D I.base 1 (λ p. []) before before (λ c _. refl) c runs;
     }
@@ -502,17 +504,18 @@ anew-logs E w shown k =
     let base = new_base w shown in
     let log = new_log E w shown in
     let number = greatest_done E log (parts D) + 1 in
+    let replies = greatest_replies E log (parts D) in
     let before : ℕ → SiteState = λ c. stopped_site (w.sites c) in
     record {
       owner = new_owner start k.owner;
       history = new_history D (new_word D base start) start;
       logs = new_logs D base start log;
-      holds = begun-holds D base start number (start + D.layout.hosts) v.agents v.channel (new_owner start k.owner) log v.sites
-          (recovery-holds S.words base number k.holds.words k.strangers) (record {
+      holds = begun-holds D base start number (start + D.layout.hosts) replies v.agents v.channel (new_owner start k.owner) log v.sites
+          (recovery-holds S.words base number replies k.holds.words k.strangers) (record {
             positive = omega arith;
             drawn = k.holds.words.some;
-            hosts = λ h e. if-true (is_host D h) (member_agent (new_word D base start) number start h) (w.agents h) e;
-            environment = λ h e. if-false (is_host D h) (member_agent (new_word D base start) number start h) (w.agents h) e ∙ k.strangers h e;
+            hosts = λ h e. if-true (is_host D h) (member_agent (new_word D base start) number replies start h) (w.agents h) e;
+            environment = λ h e. if-false (is_host D h) (member_agent (new_word D base start) number replies start h) (w.agents h) e ∙ k.strangers h e;
             members = sites-begin D base start log before w.sites;
             others = λ c q. sites-rest D base start log before w.sites c q (stranger-rests S k.holds c q);
             agreed = λ h g. refl;
@@ -520,7 +523,7 @@ anew-logs E w shown k =
             told = λ c h. refl;
             foreign = λ from e c. foreign-left D start w.channel from c e (foreign-on S from c e (k.holds.foreign from c));
           });
-      strangers = λ h e. if-false (is_host D h) (member_agent (new_word D base start) number start h) (w.agents h) e ∙ k.strangers h e;
+      strangers = λ h e. if-false (is_host D h) (member_agent (new_word D base start) number replies start h) (w.agents h) e ∙ k.strangers h e;
       authoritative = first-authoritative D base start log;
       counted = λ c runs _. first-counted D base start log before w.sites (λ c q. (k.holds.sites c).environment q) c runs;
     }

@@ -1,6 +1,6 @@
 -- What the law of logs doesn't look at may be another: the disks' contents, the next start, and what others than sites and agents
 -- have sent.
-use Rattle.log_laws.proofs.Names.{◌≡◌, false, List, refl, sym, subst, ◌∙◌, true≢false, fun_ext, ℕ, AllByRecursion, Actor, Director, Client, Agent, Site, Scanner, Shown, same, Letter, Queued, Job_, Admission, In, Admitted, all-mono, eqb-same, grows-same, LogState, views, ViewsOk, ForeignOk, AllLoaded, AskedOk, QueuedLoadedOk, LogsHold, site_start, agent_to_site}
+use Rattle.log_laws.proofs.Names.{◌≡◌, false, List, refl, sym, subst, ◌∙◌, true≢false, fun_ext, ℕ, AllByRecursion, Actor, Director, Client, Agent, Site, Scanner, Shown, same, Letter, Queued, ToRun, Admission, In, Admitted, all-mono, eqb-same, grows-same, LogState, views, ViewsOk, ForeignOk, AllLoaded, AskedOk, QueuedLoadedOk, LogsHold, site_start, agent_to_site}
 use Rattle.volt_wire.specs.declared.message.Msg.TheVariants as msg
 use Rattle.word_laws.specs.Histories as word
 use Rattle.log_laws.proofs.Agents.Words.{sites-hold, sites-kept}
@@ -36,7 +36,7 @@ module _ (S : LogState) (next : ℕ) (owner : ℕ → ℕ) (channel : Actor → 
   }
 
   queued : (q : Queued) → QueuedLoadedOk S q → QueuedLoadedOk T q
-  queued (Job_ job) k = tt
+  queued (ToRun job) k = tt
   queued (Admission a h term) k = k
 
   asked : (from : Actor) (l : Letter) → AskedOk S from l → AskedOk T from l

@@ -1,7 +1,9 @@
 -- Events that change nothing of sites: those of the director, of clients and scanners, and a recovery that fails.
-use Rattle.log_laws.proofs.Names.{◌≡◌, ◌+◌, ◌<◌, Bool, true, false, List, [], ◌∷◌, append-nil, refl, sym, subst, ap, ◌∙◌, ◌==◌, arith, ℕ, Option, Some, None, AllByRecursion, Actor, Director, Client, Agent, Site, Scanner, Item, TimedItem, Database, Deployment, is_host, is_slot_of, host_of_slot, same, Letter, Sends, Turn, no_sends, open_letter, only, new_agent, stops_others, ClientState, Due, submits, submit_to, target, DirectorState, stops_host, asks_recovery, does, does_next, ScannerState, Scan, scan_block, scans, scan_turn, scanner_turn, Environment, NoMemory, World, took, sent, set_at, stop_noted, stamp_of, with_director, with_client, with_scanner, left_contents, stays_stopped, delivered, starts_in, takes-next, state_of, all-append, all-if, all-mono, set-there, starts-if, stops_all-starts, same-true, channel-holds, director-inert-holds, draws-holds, cond_both, LogState, ForeignOk, LogsHold, log_state, AuthoritativeOk, CountedIn, HasLogs}
+use Rattle.log_laws.proofs.Names.{◌≡◌, ◌+◌, ◌<◌, Bool, true, false, List, [], ◌∷◌, append-nil, refl, sym, subst, ap, ◌∙◌, ◌==◌, arith, ℕ, Option, Some, None, AllByRecursion, Actor, Director, Client, Agent, Site, Scanner, Item, TimedItem, Database, Deployment, is_host, is_slot_of, host_of_slot, same, Letter, Sends, Turn, no_sends, open_letter, only, new_agent, stops_others, ClientState, Due, submits, submit_to, target, DirectorState, stops_host, asks_recovery, does, does_next, ScannerState, Scan, scan_block, scans, scan_turn, scanner_turn, Environment, NoMemory, World, took, sent, set_at, stop_noted, stamp_of, with_director, with_client, with_scanner, left_contents, stays_stopped, delivered, starts_in, takes-next, state_of, all-append, all-if, all-mono, set-there, starts-if, stops_all-starts, same-true, channel-holds, director-inert-holds, draws-holds, cond_both, LogState, ForeignOk, LogsHold, log_state, AuthoritativeOk, CountedIn, HasLogs, ◌&&◌}
 use Rattle.volt_wire.specs.declared.item.Item.TheVariants as item
 use Rattle.volt_wire.specs.declared.message.Msg.TheVariants as msg
+use Rattle.cluster_model.specs.Client.{Submitted, asks_again, loses, without_agent, client_takes}
+use Rattle.cluster_model.specs.Letters.{becomes}
 use Rattle.word_laws.specs.Histories as word
 use Rattle.log_laws.proofs.Runs.Boots.{NoStart}
 use Rattle.log_laws.proofs.Runs.Frames.{Agrees, foreign-plain, frames-holds}
@@ -114,16 +116,37 @@ keeps w v k owner authoritative counted holds strangers = record {
 
 -- ---- one of them takes a message
 
--- a client takes it and sends nothing
+-- a client sends no start
+asks-none : (stamp n : ℕ) (c : ClientState) (p : Submitted) (o : Option ℕ) (i : ℕ) → AllByRecursion NoStart ((asks_again stamp n c p o).sends (Site i))
+asks-none stamp n c p None i = tt
+asks-none stamp n c p (Some h) i = tt
+
+loses-none : (D : Deployment) (stamp n : ℕ) (c : ClientState) (p : Option Submitted) (host start i : ℕ) → AllByRecursion NoStart ((loses D stamp n c p host start).sends (Site i))
+loses-none D stamp n c None host start i = tt
+loses-none D stamp n c (Some p) host start i =
+    cond_both (p.host == host && p.start == start) (asks_again stamp n c p (target D c)) (becomes c) (λ t. AllByRecursion NoStart (t.sends (Site i)))
+    (λ e. asks-none stamp n c p (target D c) i) (λ e. tt)
+
+takes-none : (D : Deployment) (stamp n : ℕ) (c : ClientState) (from : Actor) (l : Letter) (i : ℕ) → AllByRecursion NoStart ((client_takes D stamp n c from l).sends (Site i))
+takes-none D stamp n c (Agent h) l i = elim l.body as (λ m. AllByRecursion NoStart ((client_takes D stamp n c (Agent h) (record l { body = m })).sends (Site i))) [
+  | msg.Closed start ↦ loses-none D stamp n (record c { known = without_agent c.known h start }) c.pending h start i
+  | m ↦ tt
+]
+takes-none D stamp n c Director l i = tt
+takes-none D stamp n c (Client g) l i = tt
+takes-none D stamp n c (Site g) l i = tt
+takes-none D stamp n c (Scanner g) l i = tt
+
+-- a client takes it
 pub to_client-logs : (E : Database) (w : World) (n : ℕ) (from : Actor) (ls : List Letter) (o : Environment) → (k : HasLogs w) → Keeps w k (delivered E w (Client n) from ls o)
 to_client-logs E w n from [] o k = still w k
 to_client-logs E w n from (l ∷ ls) o k =
     let S = log_state w k.owner k.history k.logs in
     let v = delivered E w (Client n) from (l ∷ ls) o in
     keeps w v k k.owner refl k.counted
-    (foreign-turn w k S.words.next k.owner (took w.channel from (Client n)) (Client n) no_sends tt (took-agrees w.channel from (Client n) tt)
+    (foreign-turn w k S.words.next k.owner (took w.channel from (Client n)) (Client n) (client_takes w.deployment (stamp_of w) n (w.clients n) from l).sends tt (took-agrees w.channel from (Client n) tt)
     (took-foreign S w.channel from (Client n) tt k.holds.foreign)
-    (channel-holds S.words v.channel (λ h g. refl) (λ h. refl) k.holds.words) (λ x l. refl) (λ c. tt))
+    (channel-holds S.words v.channel (λ h g. refl) (λ h. refl) k.holds.words) (λ x l. refl) (takes-none w.deployment (stamp_of w) n (w.clients n) from l))
     k.strangers
 
 -- so does the director

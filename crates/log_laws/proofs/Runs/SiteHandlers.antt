@@ -132,8 +132,8 @@ module _ (E : Database) (stamp : ℕ) (S : LogState) (H : LogsHold S) (i : ℕ) 
 
     agent-handler : (m : Msg Blocks) → S.words.channel (Agent h) (Site i) ≡ record l { body = m } ∷ ls → ForeignOk S i (Agent h) (record l { body = m }) → FromAgent m
     agent-handler m = elim m as (λ m. S.words.channel (Agent h) (Site i) ≡ record l { body = m } ∷ ls → ForeignOk S i (Agent h) (record l { body = m }) → FromAgent m) [
-      | msg.SpCall call start body ↦ λ is k. goes-turns (site_popped S (Agent h) i) i _
-          (on_sp_call-goes E (site_popped S (Agent h) i) (heard (msg.SpCall call start body) is refl) i stamp h call start body up)
+      | msg.SpCall call start client body ↦ λ is k. goes-turns (site_popped S (Agent h) i) i _
+          (on_sp_call-goes E (site_popped S (Agent h) i) (heard (msg.SpCall call start client body) is refl) i stamp (record { call = call; client = client; host = h; start = start; body = body }) up)
       | msg.View w ↦ λ is k. viewed w is k
       | msg.Frag m round body ↦ λ is k. goes-turns (site_popped S (Agent h) i) i _
           (on_frag-goes E (site_popped S (Agent h) i) (heard (msg.Frag m round body) is refl) i m round body up)
@@ -185,7 +185,7 @@ module _ (E : Database) (stamp : ℕ) (S : LogState) (H : LogsHold S) (i : ℕ) 
       → LogsGo (left S i ws) i (from_agent E S.words.deployment stamp i (S.sites i) h (record l { body = m }))
   left-agent h l ws m = elim m as (λ m. LogsHold (left S i ws) → SiteWaitingFrom S i (Agent h) (record l { body = m })
       → LogsGo (left S i ws) i (from_agent E S.words.deployment stamp i (S.sites i) h (record l { body = m }))) [
-        | msg.SpCall call start body ↦ λ g k. on_sp_call-goes E (left S i ws) g i stamp h call start body up
+        | msg.SpCall call start client body ↦ λ g k. on_sp_call-goes E (left S i ws) g i stamp (record { call = call; client = client; host = h; start = start; body = body }) up
         | msg.View w ↦ λ g k. absurd k
         | msg.Frag m round body ↦ λ g k. on_frag-goes E (left S i ws) g i m round body up
         | msg.Done m o ↦ λ g k. on_done-goes E (left S i ws) g i stamp m o up

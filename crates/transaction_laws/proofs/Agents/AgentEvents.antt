@@ -2,55 +2,70 @@
 use Rattle.volt_wire.specs.declared.message.Msg.TheVariants as msg
 use Rattle.word_laws.specs.Histories as word
 use Rattle.word_laws.proofs.Moves as word_moves
-use Rattle.transaction_laws.proofs.Names.{Actor, Agent, AgentGoes, AgentState, AgentTakes, AllByRecursion, AnswerOk, Arrival, AskedOk, Bool, CallsHold, Database, Deployment, Director, DiskFails, DisksShow, Environment, Firm, Ignores, In, IsSlot, Letter, List, LogState, LogsHold, Membership, NoFault, NoMemory, Refused, Rest, Runs_, Site, Some, Stops_, Taken, Transactions, Turn, WaitingAnswer, Waits, [], agent-event, agent-there, agent_handler, agent_heard, agent_runs, agent_takes, agent_turn, agent_turned, all-append, all-if, ap, arith, arrival, becomes, cases_Bool, cases_eq, comes-first, concludes, concludes-agent, concludes-none, decided-pops, false, first-agent, first-asks, handler-event, handler-grows, handler_and_word, holds-of, initiator, initiator-member, inl, inr, is_host, is_slot_of, may-join, may_decide, member-is, nat_lt, nat_tests, new_agent, none-waited, not-both, on_start, open_letter, part, refl, rest-heard, rest-of, runs-refused, runs-taken, runs-waits, slots, start-of-body, start_after, stopped-cases, stops, stops_with_host, subst, sym, taken-for, takes-cases, takes_waiting, tells, term_in, then-assoc, true, turn-cases, ℕ, ◌++◌, ◌+◌, ◌<◌, ◌==◌, ◌∙◌, ◌∷◌, ◌≡◌, ◌▸◌}
-use Rattle.transaction_laws.proofs.Kept.{NoOrder, calls-plain}
+use Rattle.transaction_laws.proofs.Names.{Actor, Agent, Client, Replied, Scanner, not, ◌&&◌, AgentAsks, AllBefore, AskedIn, AgentGoes, AgentState, AgentTakes, AllByRecursion, AnswerOk, Arrival, AskedOk, Bool, CallsHold, Database, Deployment, Director, DiskFails, DisksShow, Environment, Firm, Ignores, In, IsSlot, Letter, List, LogState, LogsHold, Membership, NoFault, NoMemory, Refused, Rest, Runs_, Site, Some, Stops_, Taken, Transactions, Turn, WaitingAnswer, Waits, [], agent-event, agent-there, agent_handler, agent_heard, agent_runs, agent_takes, agent_turn, agent_turned, all-append, all-if, ap, arith, arrival, becomes, cases_Bool, cases_eq, comes-first, concludes, concludes-agent, concludes-none, decided-pops, false, first-agent, first-asks, handler-event, handler-grows, handler_and_word, holds-of, initiator, initiator-member, inl, inr, is_host, is_slot_of, may-join, may_decide, member-is, nat_lt, nat_tests, new_agent, none-waited, not-both, on_start, open_letter, part, refl, rest-heard, rest-of, runs-refused, runs-taken, runs-waits, slots, start-of-body, start_after, stopped-cases, stops, stops_with_host, subst, sym, taken-for, takes-cases, takes_waiting, tells, term_in, then-assoc, true, turn-cases, ℕ, ◌++◌, ◌+◌, ◌<◌, ◌==◌, ◌∙◌, ◌∷◌, ◌≡◌, ◌▸◌}
+use Rattle.transaction_laws.proofs.Kept.{AllTell, Brings, Ending, MayTell, NoOrder, Tells, WaitsTold, calls-plain}
+use Rattle.transaction_laws.proofs.Agents.AgentHandlers.{stops-tell, stops_with_host-tell}
 use Rattle.transaction_laws.proofs.Initiators.{LaidOut}
-use Rattle.transaction_laws.proofs.Agents.AgentTurns.{CallsHandler, inert-then, told-handler, then-calls, concludes-calls, concludes-settled, mine-same}
+use Rattle.transaction_laws.proofs.Agents.AgentTurns.{CallsHandler, inert-then, told-handler, then-calls, concludes-calls, concludes-settled, knows-off, mine-same}
 use Rattle.transaction_laws.proofs.Agents.AgentWaits.{waited-calls}
 
 -- The agent of host n took the first message from this actor, and that is its turn: what holds of words, sites, logs and
--- transactions, holds after it.
-abbrev AgentCallsGo : Database → LogState → Firm → Bool → ℕ → ℕ → Actor → Turn AgentState → Type 0
-AgentCallsGo E S F halted stamp n from t =
+-- transactions, holds after it. What it tells of calls is so, and what waits for it brings only such.
+abbrev AgentCallsGo : Database → LogState → Firm → Ending → Bool → Transactions → ℕ → ℕ → Actor → Turn AgentState → Type 0
+AgentCallsGo E S F R halted K stamp n from t =
     (r : AgentGoes S n from t) × (L : Transactions) × CallsHold E (record S { words = word_moves.after_agent (word_moves.agent_popped S.words from n) n t.state t.sends r.history }) F halted L stamp
+    × (L.submitted ≡ K.submitted) × AllTell (Replied S.logs S.words.deployment F) R t.sends × AllByRecursion (WaitsTold R) t.state.waiting
 
-module _ (E : Database) (S : LogState) (F : Firm) (halted : Bool) (K : Transactions) (stamp n : ℕ) (from : Actor) (lay : LaidOut S) (H : LogsHold S) (C : CallsHold E S F halted K stamp) where
+module _ (E : Database) (S : LogState) (F : Firm) (R : Ending) (halted : Bool) (K : Transactions) (stamp n : ℕ) (from : Actor) (lay : LaidOut S) (H : LogsHold S) (C : CallsHold E S F halted K stamp) where
   abbrev a : AgentState
   a = S.words.agents n
 
   -- ---- turns in which the initiator's part stays, or the agent stops
 
   -- it stays, but for what waits
-  stays-go : (b : AgentState) → b.start ≡ a.start → b.decided ≡ a.decided → b.initiating ≡ a.initiating → AllByRecursion (WaitingAnswer E S F K) b.waiting
-      → AgentGoes S n from (becomes b) → AgentCallsGo E S F halted stamp n from (becomes b)
-  stays-go b start word part waits r = (
+  stays-go : (b : AgentState) → b.start ≡ a.start → b.decided ≡ a.decided → b.initiating ≡ a.initiating → AllByRecursion (WaitingAnswer E S F K) b.waiting → AllByRecursion (WaitsTold R) b.waiting
+      → AgentGoes S n from (becomes b) → AgentCallsGo E S F R halted K stamp n from (becomes b)
+  stays-go b start word part waits told r = (
     r,
     K,
     inert-then E F halted stamp S H K C (Some from) n (becomes b) r.history r.grows (λ c. tt) (mine-same E S F K n (C.agents n) b start word part waits)
         (λ w x d init some is before. rw word (before (sym start ∙ is))),
+    refl,
+    λ b. tt,
+    told,
   )
 
   -- it stops
-  stops-go : (t : Turn AgentState) → t.state ≡ new_agent 0 → ((c : ℕ) → AllByRecursion NoOrder (t.sends (Site c))) → AgentGoes S n from t → AgentCallsGo E S F halted stamp n from t
-  stops-go t z none r = (
+  stops-go : (t : Turn AgentState) → t.state ≡ new_agent 0 → ((c : ℕ) → AllByRecursion NoOrder (t.sends (Site c))) → AllTell (Replied S.logs S.words.deployment F) R t.sends → AgentGoes S n from t → AgentCallsGo E S F R halted K stamp n from t
+  stops-go t z none tells r = (
     r,
     K,
-    inert-then E F halted stamp S H K C (Some from) n t r.history r.grows none (rw z (record { initiating = inl (refl, refl, refl); waiting = tt }))
+    inert-then E F halted stamp S H K C (Some from) n t r.history r.grows none (rw z (record { initiating = inl (refl, refl, refl); knows = knows-off S F K _ refl refl refl; waiting = tt }))
         (λ w x d init some is before. let e : t.state.start ≡ 0 = ap (λ y. y.start) z in absurd (omega (arith, some, is, e))),
+    refl,
+    tells,
+    rw z tt,
   )
 
   stops_with_host-plain : (k c : ℕ) → AllByRecursion NoOrder ((stops_with_host S.words.deployment n k).sends (Site c))
   stops_with_host-plain k c = all-if NoOrder (is_slot_of S.words.deployment n c) (open_letter (msg.Stop k) ∷ []) [] (tt, tt) tt
 
   -- A fresh start begins, of which no word is the initiator's.
-  starts-go : (s : ℕ) → (In s (S.words.history.began n) → ⊥) → AgentGoes S n from (on_start S.words.deployment n s) → AgentCallsGo E S F halted stamp n from (on_start S.words.deployment n s)
+  starts-go : (s : ℕ) → (In s (S.words.history.began n) → ⊥) → AgentGoes S n from (on_start S.words.deployment n s) → AgentCallsGo E S F R halted K stamp n from (on_start S.words.deployment n s)
   starts-go s fresh r = (
     r,
     K,
-    inert-then E F halted stamp S H K C (Some from) n (on_start S.words.deployment n s) r.history r.grows (λ c. tt) (record { initiating = inl (refl, refl, refl); waiting = tt })
+    inert-then E F halted stamp S H K C (Some from) n (on_start S.words.deployment n s) r.history r.grows (λ c. tt) (record { initiating = inl (refl, refl, refl); knows = knows-off S F K _ refl refl refl; waiting = tt })
         (λ w x d init some is before. absurd (fresh (named w x d init is))),
+    refl,
+    starts-tell,
+    tt,
   )
     where
+      starts-tell : AllTell (Replied S.logs S.words.deployment F) R (on_start S.words.deployment n s).sends
+      starts-tell (Agent g) = all-if (Tells (Replied S.logs S.words.deployment F) R) (is_host S.words.deployment g && not (g == n)) (open_letter (msg.Hello s) ∷ []) [] (tt, tt) tt
+      starts-tell b = tt
+
       named : (w : Membership) (x : ℕ) → In w S.words.history.decided → initiator w ≡ Some (n, x) → s ≡ x → In s (S.words.history.began n)
       named w x d init is =
           let g = H.words.history.decided_good w d in
@@ -73,9 +88,12 @@ came-answer E S F halted K stamp n from l ls C is c e = elim (cases_Bool (nat_lt
     some-left : [] ≡ l ∷ ls → ⊥
     some-left q = absurd (cc)
 
-module _ (E : Database) (S : LogState) (F : Firm) (halted : Bool) (K : Transactions) (stamp n : ℕ) (from : Actor) (l : Letter) (ls : List Letter) (lay : LaidOut S) (H : LogsHold S)
+module _ (E : Database) (S : LogState) (F : Firm) (R : Ending) (may : MayTell S.logs S.words.deployment F R) (halted : Bool) (K : Transactions) (stamp n : ℕ) (from : Actor) (l : Letter) (ls : List Letter)
+    (lay : LaidOut S) (H : LogsHold S)
     (C : CallsHold E S F halted K stamp) (up : 0 < word.agent_start S.words n) (is : S.words.channel from (Agent n) ≡ l ∷ ls)
-    (take : arrival (S.words.agents n).start (term_in (S.words.agents n).decided) l ≡ Taken) where
+    (take : arrival (S.words.agents n).start (term_in (S.words.agents n).decided) l ≡ Taken)
+    (past : AllBefore K.submitted stamp) (asks : AgentAsks S.words.deployment K.submitted n (S.words.agents n)) (call : AskedIn S.words.deployment K.submitted from (Agent n) l)
+    (brings : Brings R from l) (waits : AllByRecursion (WaitsTold R) (S.words.agents n).waiting) where
   abbrev D : Deployment
   D = S.words.deployment
 
@@ -89,43 +107,45 @@ module _ (E : Database) (S : LogState) (F : Firm) (halted : Bool) (K : Transacti
   left : Rest P
   left = rest-heard S from n (rest-of S H)
 
-  asks : AskedOk P from l
-  asks = first-asks S from n l ls (rest-of S H) is
+  asked : AskedOk P from l
+  asked = first-asks S from n l ls (rest-of S H) is
 
   -- its handler, and what the agent says then
   abbrev told : Turn AgentState
-  told = agent_handler E D n stamp agent from l ▸ tells n agent.own
+  told = agent_handler E D n stamp agent from l ▸ tells D n agent.own
 
-  told-calls : CallsHandler E F halted stamp P K n told
-  told-calls = told-handler E F halted stamp S lay H K C (Some from) n from l
-      (first-agent P n left up E stamp from l asks (decided-pops S from n l ls H.words is) (handler-event E S.words n stamp from l ls H.words up is take (may-join P n left up from l asks)))
+  told-calls : CallsHandler E F R halted stamp P K n told
+  told-calls = told-handler E F R halted stamp S may lay H K C (Some from) n from l
+      (first-agent P n left up E stamp from l asked (decided-pops S from n l ls H.words is) (handler-event E S.words n stamp from l ls H.words up is take (may-join P n left up from l asked)))
       (taken-for agent.start (term_in agent.decided) l take).1 (came-answer E S F halted K stamp n from l ls C is)
+      past asks call brings waits
 
   -- the word that it may decide
-  concluded-calls : CallsHandler E F halted stamp P K n (told ▸ concludes D n)
-  concluded-calls = then-calls E F halted stamp P K n told (concludes D n) told-calls (concludes-none D n)
-      (λ k q c u. let T = agent_turned P n told.state told.sends told-calls.handler.handler.history in
-      concludes-calls E F halted stamp T (holds-of T k q) told-calls.after c n u (concludes-agent T n k q u))
+  concluded-calls : CallsHandler E F R halted stamp P K n (told ▸ concludes D n)
+  concluded-calls = then-calls E F R halted stamp P K n told (concludes D n) told-calls (concludes-none D n)
+      (λ k q c u asks waits. let T = agent_turned P n told.state told.sends told-calls.handler.handler.history in
+      concludes-calls E F halted stamp T (holds-of T k q) told-calls.after c n u R waits asks (concludes-agent T n k q u))
 
   -- a handler with all that follows, and then those that waited
   abbrev whole : Turn AgentState
   whole = handler_and_word E D n stamp agent from l
 
   whole-is : told ▸ concludes D n ≡ whole
-  whole-is = then-assoc (agent_handler E D n stamp agent from l) (tells n agent.own) (concludes D n)
+  whole-is = then-assoc (agent_handler E D n stamp agent from l) (tells D n agent.own) (concludes D n)
 
-  whole-calls : CallsHandler E F halted stamp P K n whole
-  whole-calls = subst (CallsHandler E F halted stamp P K n) whole-is concluded-calls
+  whole-calls : CallsHandler E F R halted stamp P K n whole
+  whole-calls = subst (CallsHandler E F R halted stamp P K n) whole-is concluded-calls
 
   whole-settled : may_decide n whole.state whole.state.own ≡ false
   whole-settled = subst (λ t. may_decide n t.state t.state.own ≡ false) whole-is (concludes-settled D n told.state)
 
-  taken-calls : CallsHandler E F halted stamp P K n (whole ▸ takes_waiting E D n stamp)
-  taken-calls = then-calls E F halted stamp P K n whole (takes_waiting E D n stamp) whole-calls (none-waited E D n stamp)
-      (λ k q c u. waited-calls E F halted stamp n (agent_turned P n whole.state whole.sends whole-calls.handler.handler.history) lay k q whole-calls.after c u
+  taken-calls : CallsHandler E F R halted stamp P K n (whole ▸ takes_waiting E D n stamp)
+  taken-calls = then-calls E F R halted stamp P K n whole (takes_waiting E D n stamp) whole-calls (none-waited E D n stamp)
+      (λ k q c u asks waits. waited-calls E F R halted stamp n (agent_turned P n whole.state whole.sends whole-calls.handler.handler.history) may lay k q whole-calls.after c u
+      (subst (λ A. AllBefore A stamp) (sym whole-calls.submitted) past) asks waits
       (subst (λ b. may_decide n b b.own ≡ false) (sym (agent-there P.words n whole.state whole.sends whole-calls.handler.handler.history)) whole-settled))
 
-  taken-go : AgentCallsGo E S F halted stamp n from (whole ▸ takes_waiting E D n stamp)
+  taken-go : AgentCallsGo E S F R halted K stamp n from (whole ▸ takes_waiting E D n stamp)
   taken-go = (
     record {
       history = taken-calls.handler.handler.history;
@@ -136,20 +156,34 @@ module _ (E : Database) (S : LogState) (F : Firm) (halted : Bool) (K : Transacti
     },
     taken-calls.after,
     taken-calls.calls,
+    taken-calls.submitted,
+    taken-calls.tells,
+    taken-calls.told,
   )
 
 -- ---- the whole
 
-module _ (E : Database) (S : LogState) (F : Firm) (halted : Bool) (K : Transactions) (stamp n : ℕ) (from : Actor) (l : Letter) (ls : List Letter) (lay : LaidOut S) (H : LogsHold S)
-    (C : CallsHold E S F halted K stamp) (is : S.words.channel from (Agent n) ≡ l ∷ ls) where
+-- as it waits
+brings-waiting : (R : Ending) (from : Actor) (l : Letter) → Brings R from l → Brings R from (record l { past = [] })
+brings-waiting R (Agent h) l k = k
+brings-waiting R (Site c) l k = k
+brings-waiting R (Client c) l k = tt
+brings-waiting R Director l k = tt
+brings-waiting R (Scanner x) l k = tt
+
+module _ (E : Database) (S : LogState) (F : Firm) (R : Ending) (may : MayTell S.logs S.words.deployment F R) (halted : Bool) (K : Transactions) (stamp n : ℕ) (from : Actor) (l : Letter) (ls : List Letter)
+    (lay : LaidOut S) (H : LogsHold S)
+    (C : CallsHold E S F halted K stamp) (is : S.words.channel from (Agent n) ≡ l ∷ ls)
+    (past : AllBefore K.submitted stamp) (asks : AgentAsks S.words.deployment K.submitted n (S.words.agents n)) (call : AskedIn S.words.deployment K.submitted from (Agent n) l)
+    (brings : Brings R from l) (waits : AllByRecursion (WaitsTold R) (S.words.agents n).waiting) where
   abbrev there : AgentState
   there = S.words.agents n
 
   abbrev Result : Turn AgentState → Type 0
-  Result t = AgentGoes S n from t → AgentCallsGo E S F halted stamp n from t
+  Result t = AgentGoes S n from t → AgentCallsGo E S F R halted K stamp n from t
 
   unchanged : Result (becomes there)
-  unchanged = stays-go E S F halted K stamp n from lay H C there refl refl refl (C.agents n).waiting
+  unchanged = stays-go E S F R halted K stamp n from lay H C there refl refl refl (C.agents n).waiting waits
 
   -- ---- of an agent that runs
 
@@ -157,31 +191,33 @@ module _ (E : Database) (S : LogState) (F : Firm) (halted : Bool) (K : Transacti
     running : (there.start == 0) ≡ false
     running = grind (arith, nat_tests, up)
 
-    answers : WaitingAnswer E S F K (record { from = from; letter = l })
-    answers = elim from as (λ f. ((c : ℕ) → f ≡ Site c → IsSlot S c × AnswerOk E S F K (part S c) l) → WaitingAnswer E S F K (record { from = f; letter = l })) [
+    answers : WaitingAnswer E S F K (record { from = from; letter = record l { past = [] } })
+    answers = elim from as (λ f. ((c : ℕ) → f ≡ Site c → IsSlot S c × AnswerOk E S F K (part S c) l) → WaitingAnswer E S F K (record { from = f; letter = record l { past = [] } })) [
       | Site c ↦ λ k. k c refl
       | f ↦ λ k. tt
     ] (came-answer E S F halted K stamp n from l ls C is)
 
-    waits : Result (becomes (record there { waiting = there.waiting ++ record { from = from; letter = l } ∷ [] }))
-    waits = stays-go E S F halted K stamp n from lay H C (record there { waiting = there.waiting ++ record { from = from; letter = l } ∷ [] }) refl refl refl
-        (all-append (WaitingAnswer E S F K) there.waiting (record { from = from; letter = l } ∷ []) (C.agents n).waiting (answers, tt))
+    waits-then : Result (becomes (record there { waiting = there.waiting ++ record { from = from; letter = record l { past = [] } } ∷ [] }))
+    waits-then = stays-go E S F R halted K stamp n from lay H C (record there { waiting = there.waiting ++ record { from = from; letter = record l { past = [] } } ∷ [] }) refl refl refl
+        (all-append (WaitingAnswer E S F K) there.waiting (record { from = from; letter = record l { past = [] } } ∷ []) (C.agents n).waiting (answers, tt))
+        (all-append (WaitsTold R) there.waiting (record { from = from; letter = record l { past = [] } } ∷ []) waits (brings-waiting R from l brings, tt))
 
     runs : (x : Arrival) → arrival there.start (term_in there.decided) l ≡ x → Result (agent_runs E S.words.deployment n stamp there from l)
-    runs Taken e r = subst (AgentCallsGo E S F halted stamp n from) (sym (runs-taken E S.words.deployment n stamp there from l e))
-        (taken-go E S F halted K stamp n from l ls lay H C up is e)
-    runs Waits e r = subst Result (sym (runs-waits E S.words.deployment n stamp there from l e)) waits r
+    runs Taken e r = subst (AgentCallsGo E S F R halted K stamp n from) (sym (runs-taken E S.words.deployment n stamp there from l e))
+        (taken-go E S F R may halted K stamp n from l ls lay H C up is e past asks call brings waits)
+    runs Waits e r = subst Result (sym (runs-waits E S.words.deployment n stamp there from l e)) waits-then r
     runs Refused e r = subst Result (sym (runs-refused E S.words.deployment n stamp there from l e)) unchanged r
 
     takes : AgentTakes E S.words.deployment n stamp there from l → Result (agent_takes E S.words.deployment n stamp there from l)
-    takes (Stops_ e) r = subst Result (sym e) (stops-go E S F halted K stamp n from lay H C (stops S.words.deployment n there.start) refl (λ c. tt)) r
+    takes (Stops_ e) r = subst Result (sym e) (stops-go E S F R halted K stamp n from lay H C (stops S.words.deployment n there.start) refl (λ c. tt) (stops-tell (Replied S.logs S.words.deployment F) R S.words.deployment n there.start)) r
     takes (Ignores e c) r = subst Result (sym e) unchanged r
     takes (Runs_ e c) r = subst Result (sym e) (runs (arrival there.start (term_in there.decided) l) refl) r
 
     running-go : (o : Environment) → Result (agent_turn E S.words.deployment n stamp there from l o)
     running-go o r = elim (turn-cases E S.words.deployment n stamp there from l o running) [
       | inl e ↦ subst Result (sym e)
-          (stops-go E S F halted K stamp n from lay H C (stops_with_host S.words.deployment n there.start) refl (stops_with_host-plain E S F halted K stamp n from lay H C there.start)) r
+          (stops-go E S F R halted K stamp n from lay H C (stops_with_host S.words.deployment n there.start) refl (stops_with_host-plain E S F R halted K stamp n from lay H C there.start)
+          (stops_with_host-tell (Replied S.logs S.words.deployment F) R S.words.deployment n there.start)) r
       | inr e ↦ subst Result (sym e) (takes (takes-cases E S.words.deployment n stamp there from l running)) r
     ]
 
@@ -196,27 +232,30 @@ module _ (E : Database) (S : LogState) (F : Firm) (halted : Bool) (K : Transacti
     stopped-takes : Result (agent_takes E S.words.deployment n stamp there from l)
     stopped-takes r = elim (stopped-cases E S.words.deployment n stamp there from l (subst (λ x. (x == 0) ≡ true) (sym z) refl)) [
       | inl e ↦ subst Result (sym e) unchanged r
-      | inr c ↦ subst Result (sym c.1.2) (starts-go E S F halted K stamp n from lay H C c.1.0 (fresh c.1.0 c.0 c.1.1)) r
+      | inr c ↦ subst Result (sym c.1.2) (starts-go E S F R halted K stamp n from lay H C c.1.0 (fresh c.1.0 c.0 c.1.1)) r
     ]
 
     stopped-go : (o : Environment) → Result (agent_turn E S.words.deployment n stamp there from l o)
     stopped-go NoFault = stopped-takes
     stopped-go (DiskFails answered) = stopped-takes
     stopped-go (NoMemory answered) =
-        stops-go E S F halted K stamp n from lay H C (stops_with_host S.words.deployment n (start_after there from l)) refl
-        (stops_with_host-plain E S F halted K stamp n from lay H C (start_after there from l))
+        stops-go E S F R halted K stamp n from lay H C (stops_with_host S.words.deployment n (start_after there from l)) refl
+        (stops_with_host-plain E S F R halted K stamp n from lay H C (start_after there from l))
+        (stops_with_host-tell (Replied S.logs S.words.deployment F) R S.words.deployment n (start_after there from l))
     stopped-go (DisksShow shown failed) = stopped-takes
 
 -- A message of an agent that is there, with any share of the environment's: what holds of transactions, holds after its turn.
-pub agent-calls : (E : Database) (S : LogState) (F : Firm) (halted : Bool) (K : Transactions) (now n : ℕ) (from : Actor) (l : Letter) (ls : List Letter) (o : Environment)
-    → LaidOut S → LogsHold S → CallsHold E S F halted K now → S.words.channel from (Agent n) ≡ l ∷ ls → is_host S.words.deployment n ≡ true
+pub agent-calls : (E : Database) (S : LogState) (F : Firm) (R : Ending) (halted : Bool) (K : Transactions) (now n : ℕ) (from : Actor) (l : Letter) (ls : List Letter) (o : Environment)
+    → MayTell S.logs S.words.deployment F R → Brings R from l → AllByRecursion (WaitsTold R) (S.words.agents n).waiting → LaidOut S → LogsHold S → CallsHold E S F halted K now → S.words.channel from (Agent n) ≡ l ∷ ls → is_host S.words.deployment n ≡ true
+    → AllBefore K.submitted (now + 1) → AgentAsks S.words.deployment K.submitted n (S.words.agents n) → AskedIn S.words.deployment K.submitted from (Agent n) l
     → ((answered : ℕ) → o ≡ NoMemory answered → nat_lt 0 (start_after (S.words.agents n) from l) ≡ true)
     → let t = agent_turn E S.words.deployment n (now + 1) (S.words.agents n) from l o in
     (r : AgentGoes S n from t) × (L : Transactions)
     × CallsHold E (record S { words = word_moves.after_agent (word_moves.agent_popped S.words from n) n t.state t.sends r.history }) F halted L (now + 1)
-agent-calls E S F halted K now n from l ls o lay H k is host memory = elim (cases_eq (word.agent_start S.words n) 0) [
-  | inl z ↦ stopped-go E S F halted K (now + 1) n from l ls lay H C is z o goes
-  | inr u ↦ running-go E S F halted K (now + 1) n from l ls lay H C is (omega (arith, u)) o goes
+    × (L.submitted ≡ K.submitted) × AllTell (Replied S.logs S.words.deployment F) R t.sends × AllByRecursion (WaitsTold R) t.state.waiting
+agent-calls E S F R halted K now n from l ls o may brings waits lay H k is host past asks call memory = elim (cases_eq (word.agent_start S.words n) 0) [
+  | inl z ↦ stopped-go E S F R may halted K (now + 1) n from l ls lay H C is past asks call brings waits z o goes
+  | inr u ↦ running-go E S F R may halted K (now + 1) n from l ls lay H C is past asks call brings waits (omega (arith, u)) o goes
 ]
   where
     C : CallsHold E S F halted K (now + 1)

@@ -1,8 +1,11 @@
 -- Turns of agents: what holds of transactions, holds after them.
 use Rattle.volt_wire.specs.declared.message.Msg.TheVariants as msg
 use Rattle.word_laws.specs.Histories as word
-use Rattle.transaction_laws.proofs.Names.{Actor, Agent, AgentCalls, AgentHandler, AgentState, AllByRecursion, AnswerOk, Books, Bool, CallsHold, Closes, Database, Deployment, Firm, Grows, Hears, History, Idle, In, Initiates, IsSlot, JobOk, Letter, List, LogState, LogsHold, MayJoin, MemberOk, Membership, None, Off, Option, Phase, PhaseOk, Rest, Site, SiteCalls, Some, ToSiteOk, Transactions, Turn, WaitingAnswer, WordOf, WordsTurn, Works, [], after-after, after-handler, agent-there, agent_handler, agent_turned, all-append, all-if, all-mono, and_from, and_left, and_right, ap, append-nil, arith, becomes, cases_Bool, cases_eq, concludes, concludes-is, concludes-not, decides-state, decides_word, eqb-same, false, filter, flat-none, flat_map-append, for-false, handler-grows, if-none, if◌then◌else◌, initiates, initiates-is, initiator, inl, inr, is_down, is_for, is_in, is_initiator_in, is_member, is_other_word, is_slot_of, is_word, leader, letter_to, list_all, may_decide, members, new_agent, none-and-some, not, not-both, not_from_true, order_of, orders, part, refl, rest, same, same-some, same-word, same_word, same_word-refl, says, sent-both, set-both, set-there, site_start, start_of_slot, subst, sym, tells, tells-state, term_in, term_of, then-inert, took, took-all, true, with_phase, ℕ, ◌&&◌, ◌++◌, ◌<◌, ◌==◌, ◌||◌, ◌∙◌, ◌∷◌, ◌≡◌, ◌≤◌, ◌⊎◌, ◌▸◌}
-use Rattle.transaction_laws.proofs.Kept.{Onto, NoOrder, SentOrder, InitiatorGoes, OffGoes, answer-on, to_site-on, onto-worded, shows-worded, books-moved, phase-moved, waiting-on, KeepsWords, onto-same}
+use Rattle.cluster_model.specs.Agent.{word_to}
+use Rattle.cluster_model.specs.Words.{is_client}
+use Rattle.call_laws.proofs.Agents.{decides_word-asks, handler-asks}
+use Rattle.transaction_laws.proofs.Names.{Actor, Agent, Client, Director, KnownReply, Replied, Scanner, is_host, is_none, open_letter, start_of, AgentAsks, AllBefore, AskedIn, CallsOk, CoversIn, Initiating, Knows, RepliesRise, chosen, AgentCalls, AgentHandler, AgentState, AllByRecursion, AnswerOk, Books, Bool, CallsHold, Closes, Database, Deployment, Firm, Grows, Hears, History, Idle, In, Initiates, IsRequest, IsSlot, JobOk, Letter, List, LogState, LogsHold, MayJoin, MemberOk, Membership, None, Off, Option, Phase, PhaseOk, Rest, Site, SiteCalls, Some, ToSiteOk, Transactions, Turn, WaitingAnswer, WordOf, WordsTurn, Works, [], after-after, after-handler, agent-there, agent_handler, agent_turned, all-append, all-if, all-mono, and_from, and_left, and_right, ap, append-nil, arith, asked_again, asks_again, asks_again-requests, becomes, cases_Bool, cases_eq, concludes, concludes-is, concludes-not, decided_sends, decides-state, decides_word, eqb-same, false, flat-none, flat_map-append, for-false, handler-grows, if-none, if◌then◌else◌, initiates, initiates-is, initiator, inl, inr, is_down, is_for, is_initiator_in, is_member, is_other_word, is_slot_of, is_word, leader, letter_to, list_all, may_decide, members, new_agent, none-and-some, not, not-both, not_from_true, order_of, orders, part, refl, request-cases, rest, same, same-some, same-word, same_word, same_word-refl, says, sent-both, set-both, set-there, site_start, start_of_slot, subst, sym, tells, tells-state, term_in, term_of, then-inert, took, took-all, true, with_phase, ℕ, ◌&&◌, ◌++◌, ◌<◌, ◌==◌, ◌||◌, ◌∙◌, ◌∷◌, ◌≡◌, ◌≤◌, ◌⊎◌, ◌▸◌}
+use Rattle.transaction_laws.proofs.Kept.{AllTell, Brings, Ending, MayTell, Onto, NoOrder, Tells, WaitsTold, SentOrder, InitiatorGoes, OffGoes, answer-on, to_site-on, onto-worded, shows-worded, books-moved, knows-moved, phase-moved, waiting-on, KeepsWords, onto-same}
 use Rattle.transaction_laws.proofs.Initiators.{LaidOut, one-initiator, has-decided, before-below, stays-initiator, decides-heard}
 use Rattle.transaction_laws.proofs.Agents.AgentHandlers.{no-orders, handler-initiates, handler-off, phase-kept}
 
@@ -39,7 +42,20 @@ pub record Mine (E : Database) (S : LogState) (F : Firm) (L : Transactions) (n :
   pub initiating :
       ((a.initiating.phase ≡ Off) × (a.initiating.work ≡ None) × (a.initiating.next ≡ 0))
       ⊎ ((w : Membership) × (0 < a.start) × (a.decided ≡ Some w) × (initiator w ≡ Some (n, a.start)) × PhaseOk E S F L (term_of w) a a.initiating.phase)
+  pub knows : Knows S F L a.initiating
   pub waiting : AllByRecursion (WaitingAnswer E S F L) a.waiting
+
+-- One that isn't an initiator knows of no call that was applied, and need not.
+pub knows-off : (S : LogState) (F : Firm) (L : Transactions) (i : Initiating) → i.phase ≡ Off → i.work ≡ None → i.replies ≡ [] → Knows S F L i
+knows-off S F L i phase work none = record {
+  rise = subst RepliesRise (sym none) tt;
+  covers = subst (CoversIn S L i.replies) (sym phase) tt;
+  decided = λ w o is decision. absurd (none-and-some work is);
+  fresh = λ w works is none. absurd (none-and-some work is);
+  from = subst (AllByRecursion (KnownReply S F L.submitted L.heard i.work)) (sym none) tt;
+  first = λ _. none;
+  outcome = λ w o is decision. absurd (none-and-some work is);
+}
 
 -- one whose start, word and initiator's part are as they were
 pub mine-same : (E : Database) (S : LogState) (F : Firm) (K : Transactions) (n : ℕ) → AgentCalls E S F K n → (b : AgentState) → b.start ≡ (S.words.agents n).start
@@ -55,6 +71,7 @@ mine-same E S F K n k b start word part waits = let a = S.words.agents n in reco
       subst (λ i. PhaseOk E S F K (term_of q.0) b i.phase) (sym part) (phase-kept E S F K (term_of q.0) a b a.initiating.phase (ap (λ i. i.work) part) (ap (λ i. i.next) part) q.2),
     )
   ];
+  knows = subst (Knows S F K) (sym part) k.knows;
   waiting = waits;
 }
 
@@ -77,6 +94,9 @@ module _ (E : Database) (F : Firm) (halted : Bool) (stamp : ℕ) (S : LogState) 
   module _ (L : Transactions) (B : Books E S F L stamp) (heard : K.heard ≤ L.heard) where
     phase-then : (u : ℕ) (a : AgentState) (x : Phase) → PhaseOk E S F L u a x → PhaseOk E T F L u a x
     phase-then = phase-moved E S T F F L stamp stamp L.due (omega arith) H (λ p t b. absurd (none-and-some b.none b.led)) onto (λ p t q. inl (refl, refl)) B
+
+    knows-then : (i : Initiating) → Knows S F L i → Knows T F L i
+    knows-then = knows-moved E S T F F L stamp stamp L.due (omega arith) H (λ p t b. absurd (none-and-some b.none b.led)) onto (λ p t q. inl (refl, refl)) B
 
     to_sites-then : ((c : ℕ) → IsSlot S c → AllByRecursion (ToSiteOk S n c) (t.sends (Site c))) → (h c : ℕ) → IsSlot S c → AllByRecursion (ToSiteOk T h c) (T.words.channel (Agent h) (Site c))
     to_sites-then letters h c slot = sent-both (AllByRecursion (ToSiteOk T h c)) (left S.words.channel o n) n t.sends h (Site c)
@@ -112,6 +132,7 @@ module _ (E : Database) (F : Firm) (halted : Bool) (stamp : ℕ) (S : LogState) 
           subst (λ a. PhaseOk E T F L (term_of q.0) a a.initiating.phase) (sym here) (phase-then (term_of q.0) a a.initiating.phase q.4),
         )
       ];
+      knows = subst (λ a. Knows T F L a.initiating) (sym here) (knows-then a.initiating k.knows);
       waiting = subst (λ a. AllByRecursion (WaitingAnswer E T F L) a.waiting) (sym here) (all-mono _ _ (waiting-on E S T F F onto L L (omega arith)) a.waiting k.waiting);
     }
 
@@ -120,9 +141,10 @@ module _ (E : Database) (F : Firm) (halted : Bool) (stamp : ℕ) (S : LogState) 
 
     other-then : (h : ℕ) → (h ≡ n → ⊥)
         → ((w : Membership) → Initiates S h w → PhaseOk E S F K (term_of w) (S.words.agents h) (S.words.agents h).initiating.phase
-        → PhaseOk E S F L (term_of w) (S.words.agents h) (S.words.agents h).initiating.phase) → AgentCalls E T F L h
-    other-then h d still = let k = C.agents h in agent-then h (S.words.agents h) (set-there S.words.agents n t.state h d) (record {
+        → PhaseOk E S F L (term_of w) (S.words.agents h) (S.words.agents h).initiating.phase) → Knows S F L (S.words.agents h).initiating → AgentCalls E T F L h
+    other-then h d still knows = let k = C.agents h in agent-then h (S.words.agents h) (set-there S.words.agents n t.state h d) (record {
       initiating = elim k.initiating [ inl q ↦ inl q | inr q ↦ inr (q.0, q.1.runs, q.1.has_decided, q.1.initiates, still q.0 q.1 q.2) ];
+      knows = knows;
       waiting = all-mono _ _ (waiting-on E S S F F (onto-same S F) K L heard) (S.words.agents h).waiting k.waiting;
     })
 
@@ -135,7 +157,8 @@ module _ (E : Database) (F : Firm) (halted : Bool) (stamp : ℕ) (S : LogState) 
       (due : (c : ℕ) → IsSlot S c → 0 < site_start S c → SiteCalls S K c → DueThen L c)
       (mine : Mine E S F L n t.state)
       (others : (h : ℕ) → (h ≡ n → ⊥) → (w : Membership) → Initiates S h w → PhaseOk E S F K (term_of w) (S.words.agents h) (S.words.agents h).initiating.phase
-      → PhaseOk E S F L (term_of w) (S.words.agents h) (S.words.agents h).initiating.phase) where
+      → PhaseOk E S F L (term_of w) (S.words.agents h) (S.words.agents h).initiating.phase)
+      (know : (h : ℕ) → (h ≡ n → ⊥) → Knows S F L (S.words.agents h).initiating) (submitted : L.submitted ≡ K.submitted) where
     calls-then : CallsHold E T F halted L stamp
     calls-then = record {
       books = books-moved E S T F F L stamp stamp L.due (omega arith) H (λ p t b. absurd (none-and-some b.none b.led)) onto (λ p t q. inl (refl, refl)) B by (λ p t q. refl);
@@ -145,9 +168,10 @@ module _ (E : Database) (F : Firm) (halted : Bool) (stamp : ℕ) (S : LogState) 
       sites = λ c slot up. let k = C.sites c slot up in site-then L B heard c k (due c slot up k);
       agents = λ h. elim (cases_eq h n) [
         | inl e ↦ subst (AgentCalls E T F L) (sym e) (mine-then L B heard mine)
-        | inr d ↦ other-then L B heard h d (others h d)
+        | inr d ↦ other-then L B heard h d (others h d) (know h d)
       ];
-      halts = λ e shown k. C.halts e shown (shows-worded S T.words.agents T.words.channel G grows.decided shown k);
+      halts = λ e shown k. let r = C.halts e shown (shows-worded S T.words.agents T.words.channel G grows.decided shown k) in
+          (r.0, r.1, λ p part. subst (λ A. CallsOk A p (chosen S.words.deployment shown p)) (sym submitted) (r.2 p part));
     }
       where
         by : KeepsWords S T L.heard
@@ -238,10 +262,16 @@ module _ (E : Database) (F : Firm) (halted : Bool) (stamp : ℕ) (S : LogState) 
         due-initiates
         (record {
           initiating = inr (w, subst (λ s. 0 < s) (sym g.start) i.runs, g.decided ∙ i.has_decided, i.initiates ∙ ap (λ a. Some (n, a)) (sym g.start), g.phase);
+          knows = g.knows;
           waiting = subst (AllByRecursion (WaitingAnswer E S F L)) (sym g.waiting)
               (all-mono _ _ (waiting-on E S S F F (onto-same S F) K L g.heard) (S.words.agents n).waiting (C.agents n).waiting);
         })
         (λ h d v k. absurd (d (one-initiator S H.words h n v w k i)))
+        (λ h d. elim (C.agents h).initiating [
+          | inl q ↦ knows-off S F L (S.words.agents h).initiating q.0 q.1 ((C.agents h).knows.first q.2)
+          | inr q ↦ absurd (d (one-initiator S H.words h n q.0 w q.1 i))
+        ])
+        g.submitted
 
   -- ---- a turn in which no round and no end is sent, and after which all that is due is as it was
 
@@ -260,11 +290,11 @@ module _ (E : Database) (F : Firm) (halted : Bool) (stamp : ℕ) (S : LogState) 
       → ((S.words.agents n).start ≡ a → K.heard ≤ term_in (S.words.agents n).decided) → K.heard ≤ term_in t.state.decided)
       → CallsHold E (agent_turned (base S o n) n t.state t.sends G) F halted K stamp
   inert-then none mine own = calls-then E F halted stamp S H K C o n t G grows K C.books (omega arith) own
-      (λ c slot. all-mono _ _ (no-order-letter S n c) (t.sends (Site c)) (none c)) (due-inert none) mine (λ h d w i k. k)
+      (λ c slot. all-mono _ _ (no-order-letter S n c) (t.sends (Site c)) (none c)) (due-inert none) mine (λ h d w i k. k) (λ h d. (C.agents h).knows) refl
 
   -- the handler of one that isn't an initiator
-  off-then : OffGoes (S.words.agents n) t → CallsHold E (agent_turned (base S o n) n t.state t.sends G) F halted K stamp
-  off-then g = inert-then g.sends (record { initiating = inl (g.phase, g.work, g.next); waiting = waits g.kept }) (λ w a d init some is. own g.kept a some is)
+  off-then : (M R : Ending) → OffGoes M R (S.words.agents n) t → CallsHold E (agent_turned (base S o n) n t.state t.sends G) F halted K stamp
+  off-then M R g = inert-then g.sends (record { initiating = inl (g.phase, g.work, g.next); knows = knows-off S F K t.state.initiating g.phase g.work g.replies; waiting = waits g.kept }) (λ w a d init some is. own g.kept a some is)
     where
       waits : ((t.state ≡ new_agent 0) ⊎ ((t.state.start ≡ (S.words.agents n).start) × (t.state.decided ≡ (S.words.agents n).decided) × (t.state.waiting ≡ (S.words.agents n).waiting)))
           → AllByRecursion (WaitingAnswer E S F K) t.state.waiting
@@ -278,18 +308,35 @@ module _ (E : Database) (F : Firm) (halted : Bool) (stamp : ℕ) (S : LogState) 
 
 -- ---- what an agent says of a new word
 
-tells-sites : (n : ℕ) (before : Option Membership) (a : AgentState) (c : ℕ) → (tells n before a).sends (Site c) ≡ []
-tells-sites n before a c = choice (is_other_word before a.own) a.own
+tells-sites : (D : Deployment) (n : ℕ) (before : Option Membership) (a : AgentState) (c : ℕ) → (tells D n before a).sends (Site c) ≡ []
+tells-sites D n before a c = choice (is_other_word before a.own) a.own
   where
-    choice : (b : Bool) (own : Option Membership) → (if b then says n a own else becomes a).sends (Site c) ≡ []
+    choice : (b : Bool) (own : Option Membership) → (if b then says D n a own else becomes a).sends (Site c) ≡ []
     choice true None = refl
     choice b own = refl
 
-told-sites : (n : ℕ) (before : Option Membership) (t : Turn AgentState) (c : ℕ) → (t ▸ tells n before).sends (Site c) ≡ t.sends (Site c)
-told-sites n before t c = ap (λ xs. t.sends (Site c) ++ xs) (tells-sites n before t.state c) ∙ append-nil (t.sends (Site c))
+told-sites : (D : Deployment) (n : ℕ) (before : Option Membership) (t : Turn AgentState) (c : ℕ) → (t ▸ tells D n before).sends (Site c) ≡ t.sends (Site c)
+told-sites D n before t c = ap (λ xs. t.sends (Site c) ++ xs) (tells-sites D n before t.state c) ∙ append-nil (t.sends (Site c))
+
+-- and that it tells of no call
+says-tell : (M R : Ending) (D : Deployment) (n : ℕ) (before : Option Membership) (a : AgentState) → AllTell M R (tells D n before a).sends
+says-tell M R D n before a = choice (is_other_word before a.own) a.own
+  where
+    word : (w : Membership) (start : Option ℕ) → AllByRecursion (Tells M R) (word_to w start)
+    word w None = tt
+    word w (Some start) = (tt, tt)
+
+    choice : (b : Bool) (own : Option Membership) → AllTell M R (if b then says D n a own else becomes a).sends
+    choice true None b = tt
+    choice true (Some w) (Agent g) = all-if (Tells M R) (is_member w n a.start && is_host D g && not (g == n)) (word_to w (start_of w g)) [] (word w (start_of w g)) tt
+    choice true (Some w) b = tt
+    choice false own b = tt
+
+says-more : (M R : Ending) (D : Deployment) (n : ℕ) (before : Option Membership) (t : Turn AgentState) → AllTell M R t.sends → AllTell M R (t ▸ tells D n before).sends
+says-more M R D n before t k b = all-append (Tells M R) (t.sends b) ((tells D n before t.state).sends b) (k b) (says-tell M R D n before t.state b)
 
 initiates-tells : (E : Database) (S : LogState) (F : Firm) (K : Transactions) (stamp n : ℕ) (w : Membership) (a : AgentState) (t : Turn AgentState) (before : Option Membership)
-    → InitiatorGoes E S F K stamp n w a t → InitiatorGoes E S F K stamp n w a (t ▸ tells n before)
+    → InitiatorGoes E S F K stamp n w a t → InitiatorGoes E S F K stamp n w a (t ▸ tells S.words.deployment n before)
 initiates-tells E S F K stamp n w a t before g = record {
   after = g.after;
   books = g.books;
@@ -298,45 +345,55 @@ initiates-tells E S F K stamp n w a t before g = record {
   decided = ap (λ x. x.decided) same ∙ g.decided;
   waiting = ap (λ x. x.waiting) same ∙ g.waiting;
   phase = subst (λ x. PhaseOk E S F g.after (term_of w) x x.initiating.phase) (sym same) g.phase;
+  submitted = g.submitted;
+  knows = subst (λ x. Knows S F g.after x.initiating) (sym same) g.knows;
   sends = record {
-    letters = λ c slot. subst (AllByRecursion (SentOrder S n w c)) (sym (told-sites n before t c)) (g.sends.letters c slot);
-    due = λ c b slot leads start. g.sends.due c b slot leads start ∙ ap (λ xs. K.due (part S c) (term_of w) ++ orders b (term_of w) xs) (sym (told-sites n before t c));
+    letters = λ c slot. subst (AllByRecursion (SentOrder S n w c)) (sym (told-sites S.words.deployment n before t c)) (g.sends.letters c slot);
+    due = λ c b slot leads start. g.sends.due c b slot leads start ∙ ap (λ xs. K.due (part S c) (term_of w) ++ orders b (term_of w) xs) (sym (told-sites S.words.deployment n before t c));
     others = g.sends.others;
   };
 }
   where
-    same : (tells n before t.state).state ≡ t.state
-    same = tells-state n before t.state
+    same : (tells S.words.deployment n before t.state).state ≡ t.state
+    same = tells-state S.words.deployment n before t.state
 
-off-tells : (a : AgentState) (n : ℕ) (t : Turn AgentState) (before : Option Membership) → OffGoes a t → OffGoes a (t ▸ tells n before)
-off-tells a n t before g = record {
+off-tells : (M R : Ending) (D : Deployment) (a : AgentState) (n : ℕ) (t : Turn AgentState) (before : Option Membership) → OffGoes M R a t → OffGoes M R a (t ▸ tells D n before)
+off-tells M R D a n t before g = record {
   phase = ap (λ x. x.initiating.phase) same ∙ g.phase;
   work = ap (λ x. x.initiating.work) same ∙ g.work;
   next = ap (λ x. x.initiating.next) same ∙ g.next;
-  sends = λ c. subst (AllByRecursion NoOrder) (sym (told-sites n before t c)) (g.sends c);
+  replies = ap (λ x. x.initiating.replies) same ∙ g.replies;
+  sends = λ c. subst (AllByRecursion NoOrder) (sym (told-sites D n before t c)) (g.sends c);
+  tells = says-more M R D n before t g.tells;
   kept = elim g.kept [ inl z ↦ inl (same ∙ z) | inr k ↦ inr (ap (λ x. x.start) same ∙ k.0, ap (λ x. x.decided) same ∙ k.1, ap (λ x. x.waiting) same ∙ k.2) ];
 }
   where
-    same : (tells n before t.state).state ≡ t.state
-    same = tells-state n before t.state
+    same : (tells D n before t.state).state ≡ t.state
+    same = tells-state D n before t.state
 
 -- ---- turns that are one
 
 -- A turn of the agent of host n from a state: what holds of words, sites and logs, and of transactions.
-pub record CallsHandler (E : Database) (F : Firm) (halted : Bool) (stamp : ℕ) (P : LogState) (K : Transactions) (n : ℕ) (t : Turn AgentState) : Type 0 where
+pub record CallsHandler (E : Database) (F : Firm) (R : Ending) (halted : Bool) (stamp : ℕ) (P : LogState) (K : Transactions) (n : ℕ) (t : Turn AgentState) : Type 0 where
   pub handler : AgentHandler P n t
   pub after : Transactions
   pub heard : K.heard ≤ after.heard
+  pub submitted : after.submitted ≡ K.submitted
+  pub asks : AgentAsks P.words.deployment K.submitted n t.state
   pub calls : CallsHold E (agent_turned P n t.state t.sends handler.handler.history) F halted after stamp
+  pub tells : AllTell (Replied P.logs P.words.deployment F) R t.sends
+  pub told : AllByRecursion (WaitsTold R) t.state.waiting
 
 -- One turn, and then another one of an agent that goes on. One that has stopped does nothing then.
-pub then-calls : (E : Database) (F : Firm) (halted : Bool) (stamp : ℕ) (P : LogState) (K : Transactions) (n : ℕ) (t : Turn AgentState) (f : AgentState → Turn AgentState)
-    (r : CallsHandler E F halted stamp P K n t) → f (new_agent 0) ≡ becomes (new_agent 0)
+pub then-calls : (E : Database) (F : Firm) (R : Ending) (halted : Bool) (stamp : ℕ) (P : LogState) (K : Transactions) (n : ℕ) (t : Turn AgentState) (f : AgentState → Turn AgentState)
+    (r : CallsHandler E F R halted stamp P K n t) → f (new_agent 0) ≡ becomes (new_agent 0)
     → (let T = agent_turned P n t.state t.sends r.handler.handler.history in word.WordsHold T.words → Rest T → CallsHold E T F halted r.after stamp → 0 < word.agent_start T.words n
-    → CallsHandler E F halted stamp T r.after n (f (T.words.agents n))) → CallsHandler E F halted stamp P K n (t ▸ f)
-then-calls E F halted stamp P K n t f r silent g = elim r.handler.handler.goes [
-  | inl q ↦ both (subst (λ z. CallsHandler E F halted stamp T r.after n (f z)) here (g r.handler.handler.holds r.handler.rest r.calls (subst (λ x. 0 < x) (sym (ap (λ x. x.start) here ∙ q.0)) q.1)))
-  | inr z ↦ subst (CallsHandler E F halted stamp P K n) (sym (then-inert t f (ap f z ∙ silent ∙ ap becomes (sym z)))) r
+    → AgentAsks P.words.deployment r.after.submitted n (T.words.agents n) → AllByRecursion (WaitsTold R) (T.words.agents n).waiting → CallsHandler E F R halted stamp T r.after n (f (T.words.agents n))) → CallsHandler E F R halted stamp P K n (t ▸ f)
+then-calls E F R halted stamp P K n t f r silent g = elim r.handler.handler.goes [
+  | inl q ↦ both (subst (λ z. CallsHandler E F R halted stamp T r.after n (f z)) here (g r.handler.handler.holds r.handler.rest r.calls (subst (λ x. 0 < x) (sym (ap (λ x. x.start) here ∙ q.0)) q.1)
+      (subst (AgentAsks P.words.deployment r.after.submitted n) (sym here) (subst (λ A. AgentAsks P.words.deployment A n t.state) (sym r.submitted) r.asks))
+      (subst (λ x. AllByRecursion (WaitsTold R) x.waiting) (sym here) r.told)))
+  | inr z ↦ subst (CallsHandler E F R halted stamp P K n) (sym (then-inert t f (ap f z ∙ silent ∙ ap becomes (sym z)))) r
 ]
   where
     T : LogState
@@ -345,12 +402,16 @@ then-calls E F halted stamp P K n t f r silent g = elim r.handler.handler.goes [
     here : T.words.agents n ≡ t.state
     here = agent-there P.words n t.state t.sends r.handler.handler.history
 
-    both : CallsHandler E F halted stamp T r.after n (f t.state) → CallsHandler E F halted stamp P K n (t ▸ f)
+    both : CallsHandler E F R halted stamp T r.after n (f t.state) → CallsHandler E F R halted stamp P K n (t ▸ f)
     both q = record {
       handler = record { handler = k.0; rest = subst Rest one q.handler.rest };
       after = q.after;
       heard = omega (arith, r.heard, q.heard);
+      submitted = q.submitted ∙ r.submitted;
+      asks = subst (λ A. AgentAsks P.words.deployment A n (f t.state).state) r.submitted q.asks;
       calls = subst (λ x. CallsHold E x F halted q.after stamp) one q.calls;
+      tells = λ b. all-append (Tells (Replied P.logs P.words.deployment F) R) (t.sends b) ((f t.state).sends b) (r.tells b) (q.tells b);
+      told = q.told;
     }
       where
         k : (both : WordsTurn (MayJoin P) P.words n (t ▸ f)) × (both.history ≡ q.handler.handler.history)
@@ -362,21 +423,27 @@ then-calls E F halted stamp P K n t f r silent g = elim r.handler.handler.goes [
 
 -- ---- the handler of a message, and what the agent says of a new word then
 
-pub told-handler : (E : Database) (F : Firm) (halted : Bool) (stamp : ℕ) (S : LogState) → LaidOut S → LogsHold S → (K : Transactions) → CallsHold E S F halted K stamp
+pub told-handler : (E : Database) (F : Firm) (R : Ending) (halted : Bool) (stamp : ℕ) (S : LogState) → MayTell S.logs S.words.deployment F R → LaidOut S → LogsHold S → (K : Transactions) → CallsHold E S F halted K stamp
     → (o : Option Actor) (n : ℕ) (from : Actor) (l : Letter)
-    → AgentHandler (base S o n) n (agent_handler E S.words.deployment n stamp (S.words.agents n) from l ▸ tells n (S.words.agents n).own)
+    → AgentHandler (base S o n) n (agent_handler E S.words.deployment n stamp (S.words.agents n) from l ▸ tells S.words.deployment n (S.words.agents n).own)
     → ((l.term ≡ 0) ⊎ (l.term ≡ term_in (S.words.agents n).decided)) → ((c : ℕ) → from ≡ Site c → IsSlot S c × AnswerOk E S F K (part S c) l)
-    → CallsHandler E F halted stamp (base S o n) K n (agent_handler E S.words.deployment n stamp (S.words.agents n) from l ▸ tells n (S.words.agents n).own)
-told-handler E F halted stamp S lay H K C o n from l r term answer = elim (C.agents n).initiating [
+    → AllBefore K.submitted stamp → AgentAsks S.words.deployment K.submitted n (S.words.agents n) → AskedIn S.words.deployment K.submitted from (Agent n) l
+    → Brings R from l → AllByRecursion (WaitsTold R) (S.words.agents n).waiting
+    → CallsHandler E F R halted stamp (base S o n) K n (agent_handler E S.words.deployment n stamp (S.words.agents n) from l ▸ tells S.words.deployment n (S.words.agents n).own)
+told-handler E F R halted stamp S may lay H K C o n from l r term answer past asks asked brings waits = elim (C.agents n).initiating [
   | inl q ↦ record {
     handler = r;
     after = K;
     heard = omega arith;
-    calls = off-then E F halted stamp S H K C o n (t ▸ tells n a.own) r.handler.history grows
-        (off-tells a n t a.own (handler-off E S.words.deployment n stamp a from l q.0 q.1 q.2));
+    submitted = refl;
+    asks = asks-then;
+    calls = off-then E F halted stamp S H K C o n (t ▸ tells S.words.deployment n a.own) r.handler.history grows Own R (off q.0 q.1 q.2);
+    tells = (off q.0 q.1 q.2).tells;
+    told = elim (off q.0 q.1 q.2).kept [ inl z ↦ rw z tt | inr k ↦ rw k.2 waits ];
   }
-  | inr q ↦ goes q.0 q.1 (initiates-tells E S F K stamp n q.0 a t a.own
-      (handler-initiates E S F K stamp stamp n q.0 lay H C.books (omega arith) q.1 q.2 from l (subst (λ d. (l.term ≡ 0) ⊎ (l.term ≡ term_in d)) q.1.has_decided term) answer))
+  | inr q ↦ let k = handler-initiates E S F R may K stamp stamp n q.0 lay H C.books (omega arith) q.1 q.2 past (C.agents n).knows (asks.queue, asks.work) from l
+      (subst (λ d. (l.term ≡ 0) ⊎ (l.term ≡ term_in d)) q.1.has_decided term) answer (asked, brings) in
+      goes q.0 q.1 (initiates-tells E S F K stamp n q.0 a t a.own k.0) k.1
 ]
   where
     a : AgentState
@@ -388,15 +455,37 @@ told-handler E F halted stamp S lay H K C o n from l r term answer = elim (C.age
     grows : Grows S.words.history r.handler.history
     grows = handler-grows r.handler
 
-    goes : (w : Membership) → Initiates S n w → InitiatorGoes E S F K stamp n w a (t ▸ tells n a.own) → CallsHandler E F halted stamp (base S o n) K n (t ▸ tells n a.own)
-    goes w i g = record {
+    -- what an initiator answers
+    Own : Ending
+    Own = Replied S.logs S.words.deployment F
+
+    -- one that isn't
+    off : a.initiating.phase ≡ Off → a.initiating.work ≡ None → a.initiating.next ≡ 0 → OffGoes Own R a (t ▸ tells S.words.deployment n a.own)
+    off phase work next = off-tells Own R S.words.deployment a n t a.own
+        (handler-off Own R may.down E S.words.deployment n stamp a phase work next ((C.agents n).knows.first next) from l brings)
+
+    -- the calls that it keeps were submitted
+    asks-then : AgentAsks S.words.deployment K.submitted n (t ▸ tells S.words.deployment n a.own).state
+    asks-then = subst (AgentAsks S.words.deployment K.submitted n) (sym (tells-state S.words.deployment n a.own t.state))
+        (handler-asks E S.words.deployment K.submitted n stamp a from l asks asked).state
+
+    goes : (w : Membership) → Initiates S n w → InitiatorGoes E S F K stamp n w a (t ▸ tells S.words.deployment n a.own) → AllTell Own R t.sends → CallsHandler E F R halted stamp (base S o n) K n (t ▸ tells S.words.deployment n a.own)
+    goes w i g told = record {
       handler = r;
       after = g.after;
       heard = g.heard;
-      calls = initiates-then E F halted stamp S H K C o n (t ▸ tells n a.own) r.handler.history grows w i g;
+      submitted = g.submitted;
+      asks = asks-then;
+      calls = initiates-then E F halted stamp S H K C o n (t ▸ tells S.words.deployment n a.own) r.handler.history grows w i g;
+      tells = says-more Own R S.words.deployment n a.own t told;
+      told = subst (AllByRecursion (WaitsTold R)) (sym g.waiting) waits;
     }
 
 -- ---- a word is decided
+
+-- a call that is asked for is no round and no end
+pub request-plain : (l : Letter) → IsRequest l → NoOrder l
+request-plain = request-cases NoOrder (λ l call start client body. tt) (λ l call start client body. tt)
 
 -- an initiator's job and its next number
 phase-job : (E : Database) (S : LogState) (F : Firm) (K : Transactions) (t : ℕ) (a : AgentState) (phase : Phase) → PhaseOk E S F K t a phase
@@ -427,7 +516,7 @@ module _ (E : Database) (F : Firm) (halted : Bool) (stamp : ℕ) (S : LogState) 
 
     -- the agent with the word, before it knows whether it is the initiator
     abbrev with_word : AgentState
-    with_word = record a { decided = Some v; pending = filter (λ p. not (is_in p.target v.lost)) a.pending }
+    with_word = record a { decided = Some v; pending = asked_again S.words.deployment v a.pending }
 
     abbrev U : LogState
     U = agent_turned S n decides.state decides.sends r.handler.history
@@ -438,9 +527,16 @@ module _ (E : Database) (F : Firm) (halted : Bool) (stamp : ℕ) (S : LogState) 
     -- nothing that it sends is a round or an end, and its word is above the one before
     decided-with : (b : AgentState) → b.start ≡ a.start → b.decided ≡ Some v → Mine E S F K n b → CallsHold E (agent_turned S n b decides.sends r.handler.history) F halted K stamp
     decided-with b start word mine = inert-then E F halted stamp S H K C None n (record { state = b; sends = decides.sends }) r.handler.history (handler-grows r.handler)
-        (λ c. all-if NoOrder (is_slot_of S.words.deployment n c && not (is_down S.words.deployment v)) (letter_to a.start (msg.View v) ∷ []) [] (tt, tt) tt) mine
+        decided-sends mine
         (λ w x d init some e before. rw word (above a.decided refl (before (sym start ∙ e))))
       where
+        decided-sends : (c : ℕ) → AllByRecursion NoOrder (decides.sends (Site c))
+        decided-sends c =
+            let again = asks_again S.words.deployment a.start v a.pending (Site c) in
+            all-append NoOrder (decided_sends S.words.deployment n a v (Site c)) again
+            (all-if NoOrder (is_slot_of S.words.deployment n c && not (is_down S.words.deployment v)) (letter_to a.start (msg.View v) ∷ []) [] (tt, tt) tt)
+            (all-mono IsRequest NoOrder request-plain again (asks_again-requests S.words.deployment a.start v a.pending (Site c)))
+
         above : (o : Option Membership) → a.decided ≡ o → K.heard ≤ term_in o → K.heard ≤ term_of v
         above None e l = omega (arith, l)
         above (Some d) e l = omega (arith, l, before-below S U.words H.words r.handler.holds n v up own may is r.handler.decided r.handler.took_word d e)
@@ -458,6 +554,7 @@ module _ (E : Database) (F : Firm) (halted : Bool) (stamp : ℕ) (S : LogState) 
             init,
             (decides-heard S U.words H.words r.handler.holds n v up own may is r.handler.decided r.handler.took_word E F K stamp H.some C.books.heard init, tt, job.0, job.1),
           );
+          knows = let k = (C.agents n).knows in record { rise = k.rise; covers = tt; decided = k.decided; fresh = λ x works. absurd (cc); from = k.from; first = k.first; outcome = k.outcome };
           waiting = (C.agents n).waiting;
         })
         go false e = decided-with (with_phase with_word Off) refl refl (record {
@@ -467,23 +564,57 @@ module _ (E : Database) (F : Firm) (halted : Bool) (stamp : ℕ) (S : LogState) 
                 (ap (is_initiator_in n a.start) (stays-initiator S U.words H.words r.handler.holds n v up own may is r.handler.decided r.handler.took_word q.0 q.1)
                 ∙ and_from (n == n) (a.start == a.start) (eqb-same n) (eqb-same a.start)) e)
           ];
+          knows = let k = (C.agents n).knows in record { rise = k.rise; covers = tt; decided = k.decided; fresh = λ x works. absurd (cc); from = k.from; first = k.first; outcome = k.outcome };
           waiting = (C.agents n).waiting;
         })
 
-  -- It decides its word, or goes on as it was.
-  pub concludes-calls : AgentHandler S n (concludes S.words.deployment n a) → CallsHandler E F halted stamp S K n (concludes S.words.deployment n a)
-  concludes-calls r = go a.own refl
+  -- nothing that it sends then tells of a call
+  decides-tell : (M R : Ending) (v : Membership) → AllTell M R (decides_word S.words.deployment n a (Some v)).sends
+  decides-tell M R v b = all-append (Tells M R) (decided_sends S.words.deployment n a v b) (asks_again S.words.deployment a.start v a.pending b) (first b)
+      (all-mono IsRequest (Tells M R) (request-cases (Tells M R) (λ l call start client body. tt) (λ l call start client body. tt)) (asks_again S.words.deployment a.start v a.pending b)
+      (asks_again-requests S.words.deployment a.start v a.pending b))
     where
-      stays : concludes S.words.deployment n a ≡ becomes a → CallsHandler E F halted stamp S K n (concludes S.words.deployment n a)
-      stays q = subst (λ x. AgentHandler S n x → CallsHandler E F halted stamp S K n x) (sym q)
-          (λ r. record { handler = r; after = K; heard = omega arith; calls = stays-then r.handler.history (handler-grows r.handler) }) r
+      first : AllTell M R (decided_sends S.words.deployment n a v)
+      first (Site c) = all-if (Tells M R) (is_slot_of S.words.deployment n c && not (is_down S.words.deployment v)) (letter_to a.start (msg.View v) ∷ []) [] (tt, tt) tt
+      first (Agent g) = all-if (Tells M R) (is_host S.words.deployment g && not (g == n) && is_none (start_of v g)) (open_letter (msg.Decided v) ∷ []) [] (tt, tt) tt
+      first (Client c) = all-if (Tells M R) (is_client S.words.deployment c && is_none a.decided) (open_letter (msg.Opened a.start) ∷ []) [] (tt, tt) tt
+      first Director = tt
+      first (Scanner x) = tt
 
-      go : (o : Option Membership) → a.own ≡ o → CallsHandler E F halted stamp S K n (concludes S.words.deployment n a)
+  -- It decides its word, or goes on as it was.
+  pub concludes-calls : (R : Ending) → AllByRecursion (WaitsTold R) a.waiting → AgentAsks S.words.deployment K.submitted n a → AgentHandler S n (concludes S.words.deployment n a) → CallsHandler E F R halted stamp S K n (concludes S.words.deployment n a)
+  concludes-calls R waits asks r = go a.own refl
+    where
+      stays : concludes S.words.deployment n a ≡ becomes a → CallsHandler E F R halted stamp S K n (concludes S.words.deployment n a)
+      stays q = subst (λ x. AgentHandler S n x → CallsHandler E F R halted stamp S K n x) (sym q)
+          (λ r. record { handler = r; after = K; heard = omega arith; submitted = refl; asks = asks; calls = stays-then r.handler.history (handler-grows r.handler); tells = λ b. tt; told = waits }) r
+
+      -- what waits stays
+      decided-waits : (v : Membership) → AllByRecursion (WaitsTold R) (decides_word S.words.deployment n a (Some v)).state.waiting
+      decided-waits v = choice (initiates n with_word (Some v))
+        where
+          with_word : AgentState
+          with_word = record a { decided = Some v; pending = asked_again S.words.deployment v a.pending }
+
+          choice : (c : Bool) → AllByRecursion (WaitsTold R) (if c then with_phase with_word (Hears []) else with_phase with_word Off).waiting
+          choice true = waits
+          choice false = waits
+
+      go : (o : Option Membership) → a.own ≡ o → CallsHandler E F R halted stamp S K n (concludes S.words.deployment n a)
       go None e = stays (concludes-not S.words.deployment n a (ap (may_decide n a) e))
       go (Some v) e = elim (cases_Bool (may_decide n a (Some v))) [
-        | inl m ↦ subst (λ x. AgentHandler S n x → CallsHandler E F halted stamp S K n x)
+        | inl m ↦ subst (λ x. AgentHandler S n x → CallsHandler E F R halted stamp S K n x)
             (sym (concludes-is S.words.deployment n a (ap (may_decide n a) e ∙ m) ∙ ap (decides_word S.words.deployment n a) e))
-            (λ r. record { handler = r; after = K; heard = omega arith; calls = decided-then v e m r }) r
+            (λ r. record {
+              handler = r;
+              after = K;
+              heard = omega arith;
+              submitted = refl;
+              asks = (decides_word-asks E S.words.deployment K.submitted n a (Some v) asks).state;
+              calls = decided-then v e m r;
+              tells = decides-tell (Replied S.logs S.words.deployment F) R v;
+              told = decided-waits v;
+            }) r
         | inr m ↦ stays (concludes-not S.words.deployment n a (ap (may_decide n a) e ∙ m))
       ]
 

@@ -2,7 +2,7 @@
 use Rattle.transaction_laws.proofs.Names.{Aligned, AllByRecursion, Database, Deployment, Done, Dropped, Entry, In, IsCall, List, NoRound, None, OfNumber, OnlyCalls, Option, Outcome, Prefix, Shown, Some, Transactions, WellFormed, [], all-append, all-at, all-behind, all-first, all-from, all-mono, all_parts, ap, append-nil, append_assoc, append_cancel_left, arith, cases_eq, cases_lt, chosen, closed, drop, drop-append-le, drop-append_seam, drop-behind, eqb-same, first_stage, greater, greatest_done, greatest_open, if-true, in-cases, in-left, in-map, in-map-from, inl, inr, last_done, length, map, nat_lt, nat_tests, none-and-some, number_of, open_in, option_map, parts, point_in, prefix-drop, prefix-none, prefix-refl, prefix-same, prefix-trans, prefixes-compare, recovered, refl, resolved, resolved_log, same-some, since, stage, subst, suc, sym, take, take-append-drop, true, unwrap_or, zero, ℕ, ◌++◌, ◌-◌, ◌<◌, ◌==◌, ◌∙◌, ◌∷◌, ◌≡◌, ◌≤◌, ◌⊎◌}
 use Rattle.transaction_laws.proofs.Kept.Moves.{Under}
 use Rattle.transaction_laws.proofs.Entries.Since.{call-number, call-round, part-in, in-part, open-number}
-use Rattle.transaction_laws.proofs.Entries.Endings.{OpenAt, Closing, EndsOrSame, end-last, known-closing, closing-fits, closing-past, aligned-ended}
+use Rattle.transaction_laws.proofs.Entries.Endings.{OpenAt, Closing, EndsOrSame, Standing, end-last, known-stands, standing-closing, closing-fits, closing-past, aligned-ended}
 use Rattle.transaction_laws.proofs.Entries.Even.{AppliedInAll, even-logs}
 use Rattle.transaction_laws.proofs.Entries.Machine.{stage-append, formed-append, open_in-stage, last-number}
 
@@ -153,11 +153,14 @@ open-greatest n (x ∷ ls) h l (inr i) e = greater-second n (open_in x) (greates
 -- What a recovery makes of aligned logs.
 module _ (E : Database) (D : Deployment) (now : ℕ) (K : Transactions) (logs : ℕ → List Entry) (k : Aligned E D now K logs) where
   -- With the first outcome that is known it may end, where it is open.
-  closing : (p r : ℕ) → nat_lt p (parts D) ≡ true → OpenAt E K logs p r → Closing D K logs (resolved E D logs K.number)
-  closing p r part e = known-closing E D now K logs k p r part e (map (λ q. last_done E q (logs q)) (all_parts D))
+  pub stands : (p r : ℕ) → nat_lt p (parts D) ≡ true → OpenAt E K logs p r → Standing D K logs (resolved E D logs K.number)
+  stands p r part e = known-stands E D now K logs k p r part e (map (λ q. last_done E q (logs q)) (all_parts D))
       (λ q a other i. subst (λ x. In x (map (λ q. last_done E q (logs q)) (all_parts D))) (end-last E D now K logs k q a other i)
       (in-map (λ q. last_done E q (logs q)) q (all_parts D) (part-in D q other)))
       (λ a i. let q = in-map-from (λ q. last_done E q (logs q)) (Some (K.number, a)) (all_parts D) i in (q.0, in-part D q.0 q.1, q.2))
+
+  closing : (p r : ℕ) → nat_lt p (parts D) ≡ true → OpenAt E K logs p r → Closing D K logs (resolved E D logs K.number)
+  closing p r part e = standing-closing E D now K logs k (resolved E D logs K.number) (stands p r part e)
 
   -- ---- what a recovery makes of a log
 
@@ -165,7 +168,7 @@ module _ (E : Database) (D : Deployment) (now : ℕ) (K : Transactions) (logs : 
   greatest = greatest_open (map logs (all_parts D))
 
   -- the log that it goes on with
-  abbrev goes_on : ℕ → List Entry
+  abbrev pub goes_on : ℕ → List Entry
   goes_on p = resolved_log E D logs greatest p
 
   open-is : (p : ℕ) (o : Option (ℕ × ℕ)) → (stage E p (logs p)).opened ≡ o → open_in (logs p) ≡ option_map (λ x. x.0) o
@@ -183,12 +186,12 @@ module _ (E : Database) (D : Deployment) (now : ℕ) (K : Transactions) (logs : 
       (logs p) (in-map logs p (all_parts D) (part-in D p part)) (open-is p (Some (K.number, r)) e)
 
   -- It is that log, where nothing is open in that, and else the log with the end.
-  abbrev GoesOn : ℕ → Type 0
+  abbrev pub GoesOn : ℕ → Type 0
   GoesOn p =
       (((stage E p (logs p)).opened ≡ None) × (goes_on p ≡ logs p))
       ⊎ ((r : ℕ) × OpenAt E K logs p r × (goes_on p ≡ logs p ++ Done K.number (resolved E D logs K.number) ∷ []))
 
-  goes-on : (p : ℕ) → nat_lt p (parts D) ≡ true → (o : Option (ℕ × ℕ)) → (stage E p (logs p)).opened ≡ o → GoesOn p
+  pub goes-on : (p : ℕ) → nat_lt p (parts D) ≡ true → (o : Option (ℕ × ℕ)) → (stage E p (logs p)).opened ≡ o → GoesOn p
   goes-on p part None e = inl (e, ap (λ z. closed (logs p) z greatest (resolved E D logs (unwrap_or greatest 0))) (open-is p None e))
   goes-on p part (Some (m, r)) e =
       let n = K.number in

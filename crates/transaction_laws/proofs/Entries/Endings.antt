@@ -35,15 +35,15 @@ known-if n k a o d e = choice (k == n) refl e
 known-last : (n : ℕ) (last : Option (ℕ × Outcome)) (o : Outcome) → outcome_if_last n last ≡ Some o → (last ≡ Some (n, o)) × (o ≡ Snapshot → ⊥)
 known-last n None o e = absurd (none-and-some refl e)
 known-last n (Some (k, Snapshot)) o e = absurd (none-and-some refl e)
-known-last n (Some (k, Kept call point)) o e = known-if n k (Kept call point) o (λ s. absurd (cc)) e
-known-last n (Some (k, Aborted call point)) o e = known-if n k (Aborted call point) o (λ s. absurd (cc)) e
+known-last n (Some (k, Kept call client point reply)) o e = known-if n k (Kept call client point reply) o (λ s. absurd (cc)) e
+known-last n (Some (k, Aborted call client point reply)) o e = known-if n k (Aborted call client point reply) o (λ s. absurd (cc)) e
 known-last n (Some (k, Dropped)) o e = known-if n k Dropped o (λ s. absurd (cc)) e
 
 -- of an end of this number none is known only if it is a snapshot's
 unknown-last : (n : ℕ) (o : Outcome) → outcome_if_last n (Some (n, o)) ≡ None → o ≡ Snapshot
 unknown-last n Snapshot e = refl
-unknown-last n (Kept call point) e = absurd (none-and-some e (if-true (n == n) (Some (Kept call point)) None (eqb-same n)))
-unknown-last n (Aborted call point) e = absurd (none-and-some e (if-true (n == n) (Some (Aborted call point)) None (eqb-same n)))
+unknown-last n (Kept call client point reply) e = absurd (none-and-some e (if-true (n == n) (Some (Kept call client point reply)) None (eqb-same n)))
+unknown-last n (Aborted call client point reply) e = absurd (none-and-some e (if-true (n == n) (Some (Aborted call client point reply)) None (eqb-same n)))
 unknown-last n Dropped e = absurd (none-and-some e (if-true (n == n) (Some Dropped) None (eqb-same n)))
 
 -- ---- the last transaction, and aligned logs
@@ -57,6 +57,12 @@ abbrev pub Closing : Deployment → Transactions → (ℕ → List Entry) → Ou
 Closing D K logs o =
     ((o ≡ Dropped) × ((q : ℕ) → nat_lt q (parts D) ≡ true → (a : Outcome) → In (Done K.number a) (since K logs q) → ⊥))
     ⊎ ((K.agreed ≡ Some o) × (o ≡ Snapshot → ⊥))
+
+-- It is dropped, where it ended in no log, or its end with this outcome stands in one.
+abbrev pub Standing : Deployment → Transactions → (ℕ → List Entry) → Outcome → Type 0
+Standing D K logs o =
+    ((o ≡ Dropped) × ((q : ℕ) → nat_lt q (parts D) ≡ true → (a : Outcome) → In (Done K.number a) (since K logs q) → ⊥))
+    ⊎ ((q : ℕ) × (nat_lt q (parts D) ≡ true) × In (Done K.number o) (since K logs q) × (o ≡ Snapshot → ⊥))
 
 -- A log has that end where it was open, or is the same.
 abbrev pub EndsOrSame : Database → Transactions → (ℕ → List Entry) → Outcome → (ℕ → List Entry) → ℕ → Type 0
@@ -92,12 +98,13 @@ module _ (E : Database) (D : Deployment) (now : ℕ) (K : Transactions) (logs : 
 
   -- ---- how it may end
 
-  -- With the first outcome that is known of it from last ends, if all that stand in logs are among these, and none but those that do.
-  pub known-closing : (p r : ℕ) → nat_lt p (parts D) ≡ true → OpenAt E K logs p r → (lasts : List (Option (ℕ × Outcome)))
+  -- The first outcome that is known of it from last ends, if all that stand in logs are among these, and none but those that do: it is
+  -- dropped, where it ended in no log, or its end stands in one.
+  pub known-stands : (p r : ℕ) → nat_lt p (parts D) ≡ true → OpenAt E K logs p r → (lasts : List (Option (ℕ × Outcome)))
       → ((q : ℕ) (a : Outcome) → nat_lt q (parts D) ≡ true → In (Done K.number a) (since K logs q) → In (end_of K.number a) lasts)
       → ((a : Outcome) → In (end_of K.number a) lasts → (q : ℕ) × (nat_lt q (parts D) ≡ true) × (last_done E q (logs q) ≡ end_of K.number a))
-      → Closing D K logs (first_outcome K.number lasts)
-  known-closing p r part e lasts all only = elim (first-known K.number lasts) [
+      → Standing D K logs (first_outcome K.number lasts)
+  known-stands p r part e lasts all only = elim (first-known K.number lasts) [
     | inl (none, dropped) ↦ inl (
       dropped,
       λ q other a i.
@@ -108,8 +115,13 @@ module _ (E : Database) (D : Deployment) (now : ℕ) (K : Transactions) (logs : 
         let o = first_outcome K.number lasts in
         let (same, call) = known-last K.number last o f in
         let (q, other, at) = only o (subst (λ x. In x lasts) same i) in
-        inr (k.ends q other o (last-end p r q o part e other at), call)
+        inr (q, other, last-end p r q o part e other at, call)
   ]
+
+  -- So it may end.
+  pub standing-closing : (o : Outcome) → Standing D K logs o → Closing D K logs o
+  standing-closing o (inl dropped) = inl dropped
+  standing-closing o (inr (q, other, i, call)) = inr (k.ends q other o i, call)
 
   -- so its end fits, and adds no later point
   agreed-point : (p r x : ℕ) → nat_lt p (parts D) ≡ true → OpenAt E K logs p r → point_in K.agreed ≡ Some x → (stage E p (logs p)).point ≤ x
@@ -123,19 +135,19 @@ module _ (E : Database) (D : Deployment) (now : ℕ) (K : Transactions) (logs : 
 
   pub closing-fits : (p r : ℕ) (o : Outcome) → nat_lt p (parts D) ≡ true → OpenAt E K logs p r → Closing D K logs o → EndFits (stage E p (logs p)) K.number o
   closing-fits p r Dropped part e c = (r, e)
-  closing-fits p r (Kept call x) part e (inl c) = absurd (cc)
-  closing-fits p r (Kept call x) part e (inr c) = ((r, e), agreed-point p r x part e (ap point_in c.0))
-  closing-fits p r (Aborted call x) part e (inl c) = absurd (cc)
-  closing-fits p r (Aborted call x) part e (inr c) = ((r, e), agreed-point p r x part e (ap point_in c.0))
+  closing-fits p r (Kept call client x reply) part e (inl c) = absurd (cc)
+  closing-fits p r (Kept call client x reply) part e (inr c) = ((r, e), agreed-point p r x part e (ap point_in c.0))
+  closing-fits p r (Aborted call client x reply) part e (inl c) = absurd (cc)
+  closing-fits p r (Aborted call client x reply) part e (inr c) = ((r, e), agreed-point p r x part e (ap point_in c.0))
   closing-fits p r Snapshot part e (inl c) = absurd (cc)
   closing-fits p r Snapshot part e (inr c) = absurd (c.1 refl)
 
   pub closing-past : (point : ℕ) (o : Outcome) → Closing D K logs o → point ≤ now → point_after point o ≤ now
   closing-past point Dropped c l = l
-  closing-past point (Kept call x) (inl c) l = absurd (cc)
-  closing-past point (Kept call x) (inr c) l = k.agreed x (ap point_in c.0)
-  closing-past point (Aborted call x) (inl c) l = absurd (cc)
-  closing-past point (Aborted call x) (inr c) l = k.agreed x (ap point_in c.0)
+  closing-past point (Kept call client x reply) (inl c) l = absurd (cc)
+  closing-past point (Kept call client x reply) (inr c) l = k.agreed x (ap point_in c.0)
+  closing-past point (Aborted call client x reply) (inl c) l = absurd (cc)
+  closing-past point (Aborted call client x reply) (inr c) l = k.agreed x (ap point_in c.0)
   closing-past point Snapshot c l = l
 
   -- a point that it has is that which was agreed

@@ -52,6 +52,23 @@ module _ (E : Database) (D : Deployment) (now : ℕ) (K : Transactions) (logs : 
         let here = subst (λ n. In (Done n a) (logs q)) (sym end-last-number) there in
         subst (λ b. In (Done m b) (logs q)) (end-alike q a other here) here
 
+  -- Where nothing is open, the outcome that is agreed stands, if it applies a call and no transaction before had its number.
+  pub agreed-stands : (q x : ℕ) (o : Outcome) → nat_lt q (parts D) ≡ true → K.agreed ≡ Some o → point_in (Some o) ≡ Some x → ((stage E q (K.closed q)).number ≡ K.number → ⊥)
+      → (stage E q (logs q)).opened ≡ None → In (Done K.number o) (logs q)
+  agreed-stands q x o other agreed point new none =
+      let ((more, is), is_open, low) = A.decided q x other (ap point_in agreed ∙ point) in
+      let s = first_stage E q in
+      let formed = formed-rest s (K.decided q) more (subst (WellFormed s) is (A.formed q other)) in
+      let over = ap (λ z. z.opened) (sym (stage-append s (K.decided q) more) ∙ ap (stage E q) (sym is)) ∙ none in
+      let (a, j) = open-ends (stage E q (K.decided q)) more K.number is_open.0 formed is_open.1 over in
+      let there = subst (In (Done K.number a)) (sym is) (in-right (Done K.number a) (K.decided q) more j) in
+      elim (end-stands q K.number a other there) [
+        | inl c ↦
+            let n = end-number s (K.closed q) K.number a (first-sound E q) (formed-prefix s (K.closed q) (logs q) (A.prefix q other) (A.formed q other)) c in
+            absurd (new (omega (arith, n, A.below q other)))
+        | inr b ↦ subst (λ z. In (Done K.number z) (logs q)) (same-some (sym (A.ends q other a b) ∙ agreed)) there
+      ]
+
   -- An end that applies a call in one of them stands in each other one, or its transaction is open there.
   pub stands-or-open : (p q m x : ℕ) (o : Outcome) → nat_lt p (parts D) ≡ true → nat_lt q (parts D) ≡ true → point_in (Some o) ≡ Some x → In (Done m o) (logs p)
       → In (Done m o) (logs q) ⊎ ((r : ℕ) × ((stage E q (logs q)).opened ≡ Some (m, r)))

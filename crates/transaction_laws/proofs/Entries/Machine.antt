@@ -12,7 +12,7 @@ pub first-sound : (E : Database) (p : ℕ) → Sound (first_stage E p)
 first-sound E p m r e = absurd (none-and-some refl e)
 
 next-sound : (s : Stage) (x : Entry) → Sound s → Sound (next_stage s x)
-next-sound s (Sp call point body) h n r e = h n r e
+next-sound s (Sp call client point body) h n r e = h n r e
 next-sound s (Frag m round body) h n r e = ap (λ x. x.0) (same-some e)
 next-sound s (Done m o) h n r e = absurd (none-and-some refl e)
 
@@ -41,19 +41,19 @@ formed-prefix s xs ys (more, e) h = formed-first s xs more (subst (WellFormed s)
 
 -- an entry that fits has no lower number and no lower point
 next-number : (s : Stage) (x : Entry) → Sound s → Fits s x → s.number ≤ (next_stage s x).number
-next-number s (Sp call point body) h f = omega arith
+next-number s (Sp call client point body) h f = omega arith
 next-number s (Frag m round body) h (inl f) = omega (arith, f.1)
 next-number s (Frag m round body) h (inr f) = omega (arith, h m f.0 f.1)
-next-number s (Done m (Kept call point)) h f = omega (arith, h m f.0.0 f.0.1)
-next-number s (Done m (Aborted call point)) h f = omega (arith, h m f.0.0 f.0.1)
+next-number s (Done m (Kept call client point reply)) h f = omega (arith, h m f.0.0 f.0.1)
+next-number s (Done m (Aborted call client point reply)) h f = omega (arith, h m f.0.0 f.0.1)
 next-number s (Done m Dropped) h f = omega (arith, h m f.0 f.1)
 next-number s (Done m Snapshot) h f = omega (arith, f.1)
 
 next-point : (s : Stage) (x : Entry) → Fits s x → s.point ≤ (next_stage s x).point
-next-point s (Sp call point body) f = f.1
+next-point s (Sp call client point body) f = f.1
 next-point s (Frag m round body) f = omega arith
-next-point s (Done m (Kept call point)) f = f.1
-next-point s (Done m (Aborted call point)) f = f.1
+next-point s (Done m (Kept call client point reply)) f = f.1
+next-point s (Done m (Aborted call client point reply)) f = f.1
 next-point s (Done m o) f = omega arith
 
 pub number-rises : (s : Stage) (xs : List Entry) → Sound s → WellFormed s xs → s.number ≤ (stage_behind s xs).number
@@ -76,28 +76,28 @@ prefix-point s xs ys (more, e) k = subst (λ z. (stage_behind s xs).point ≤ z.
 
 pub calls-only : (n : ℕ) (es : List Entry) → CallsAt n es → OnlyCalls es
 calls-only n [] h = tt
-calls-only n (Sp call point body ∷ es) h = (tt, calls-only n es h.1)
+calls-only n (Sp call client point body ∷ es) h = (tt, calls-only n es h.1)
 calls-only n (x ∷ es) h = absurd h.0
 
 -- They change neither what is open nor the number.
 pub calls-opened : (s : Stage) (es : List Entry) → OnlyCalls es → (stage_behind s es).opened ≡ s.opened
 calls-opened s [] h = refl
-calls-opened s (Sp call point body ∷ es) h = calls-opened (record s { point = point }) es h.1
+calls-opened s (Sp call client point body ∷ es) h = calls-opened (record s { point = point }) es h.1
 calls-opened s (x ∷ es) h = absurd h.0
 
 pub calls-number : (s : Stage) (es : List Entry) → OnlyCalls es → (stage_behind s es).number ≡ s.number
 calls-number s [] h = refl
-calls-number s (Sp call point body ∷ es) h = calls-number (record s { point = point }) es h.1
+calls-number s (Sp call client point body ∷ es) h = calls-number (record s { point = point }) es h.1
 calls-number s (x ∷ es) h = absurd h.0
 
 pub calls-formed : (s : Stage) (n : ℕ) (es : List Entry) → CallsAt n es → s.opened ≡ None → s.point ≤ n → WellFormed s es
 calls-formed s n [] h e l = tt
-calls-formed s n (Sp call point body ∷ es) h e l = ((e, omega (arith, l, h.0)), calls-formed (record s { point = point }) n es h.1 e (omega (arith, h.0)))
+calls-formed s n (Sp call client point body ∷ es) h e l = ((e, omega (arith, l, h.0)), calls-formed (record s { point = point }) n es h.1 e (omega (arith, h.0)))
 calls-formed s n (x ∷ es) h e l = absurd h.0
 
 pub calls-point : (s : Stage) (n : ℕ) (es : List Entry) → CallsAt n es → s.point ≤ n → (stage_behind s es).point ≤ n
 calls-point s n [] h l = l
-calls-point s n (Sp call point body ∷ es) h l = calls-point (record s { point = point }) n es h.1 (omega (arith, h.0))
+calls-point s n (Sp call client point body ∷ es) h l = calls-point (record s { point = point }) n es h.1 (omega (arith, h.0))
 calls-point s n (x ∷ es) h l = absurd h.0
 
 -- ---- what is due behind a log, at most one round or end
@@ -107,11 +107,11 @@ AtMostOne due = (due ≡ []) ⊎ ((e : Entry) × (due ≡ e ∷ []) × IsOrder e
 
 -- What fits where nothing is open, fits there at a later point.
 order-fits : (s u : Stage) (x : Entry) → IsOrder x → s.opened ≡ None → u.opened ≡ s.opened → u.number ≡ s.number → Fits s x → Fits u x
-order-fits s u (Sp call point body) o e f g h = absurd o
+order-fits s u (Sp call client point body) o e f g h = absurd o
 order-fits s u (Frag m round body) o e f g (inl h) = inl (f ∙ e, omega (arith, g, h.1), h.2)
 order-fits s u (Frag m round body) o e f g (inr h) = absurd (none-and-some e h.1)
-order-fits s u (Done m (Kept call point)) o e f g h = absurd (none-and-some e h.0.1)
-order-fits s u (Done m (Aborted call point)) o e f g h = absurd (none-and-some e h.0.1)
+order-fits s u (Done m (Kept call client point reply)) o e f g h = absurd (none-and-some e h.0.1)
+order-fits s u (Done m (Aborted call client point reply)) o e f g h = absurd (none-and-some e h.0.1)
 order-fits s u (Done m Dropped) o e f g h = absurd (none-and-some e h.1)
 order-fits s u (Done m Snapshot) o e f g h = (f ∙ e, omega (arith, g, h.1))
 
@@ -135,13 +135,13 @@ due-formed s log es due n one h c (inr e) low =
 -- What is open behind entries, and the number, follow from what was open and the number.
 opened-alike : (s u : Stage) (xs : List Entry) → u.opened ≡ s.opened → (stage_behind u xs).opened ≡ (stage_behind s xs).opened
 opened-alike s u [] e = e
-opened-alike s u (Sp call point body ∷ xs) e = opened-alike (record s { point = point }) (record u { point = point }) xs e
+opened-alike s u (Sp call client point body ∷ xs) e = opened-alike (record s { point = point }) (record u { point = point }) xs e
 opened-alike s u (Frag m round body ∷ xs) e = opened-alike (next_stage s (Frag m round body)) (next_stage u (Frag m round body)) xs refl
 opened-alike s u (Done m o ∷ xs) e = opened-alike (next_stage s (Done m o)) (next_stage u (Done m o)) xs refl
 
 number-alike : (s u : Stage) (xs : List Entry) → u.number ≡ s.number → (stage_behind u xs).number ≡ (stage_behind s xs).number
 number-alike s u [] e = e
-number-alike s u (Sp call point body ∷ xs) e = number-alike (record s { point = point }) (record u { point = point }) xs e
+number-alike s u (Sp call client point body ∷ xs) e = number-alike (record s { point = point }) (record u { point = point }) xs e
 number-alike s u (Frag m round body ∷ xs) e = number-alike (next_stage s (Frag m round body)) (next_stage u (Frag m round body)) xs refl
 number-alike s u (Done m o ∷ xs) e = number-alike (next_stage s (Done m o)) (next_stage u (Done m o)) xs refl
 
@@ -163,10 +163,10 @@ due-number s log es due n c =
 
 -- an order's point is its own, or there is none
 order-point : (s u : Stage) (x : Entry) (n : ℕ) → IsOrder x → u.point ≤ n → (next_stage s x).point ≤ n → (next_stage u x).point ≤ n
-order-point s u (Sp call point body) n o low high = absurd o
+order-point s u (Sp call client point body) n o low high = absurd o
 order-point s u (Frag m round body) n o low high = low
-order-point s u (Done m (Kept call point)) n o low high = high
-order-point s u (Done m (Aborted call point)) n o low high = high
+order-point s u (Done m (Kept call client point reply)) n o low high = high
+order-point s u (Done m (Aborted call client point reply)) n o low high = high
 order-point s u (Done m z) n o low high = low
 
 one-point : (s u : Stage) (due : List Entry) (n : ℕ) → AtMostOne due → u.point ≤ n → (stage_behind s due).point ≤ n → (stage_behind u due).point ≤ n
@@ -204,10 +204,10 @@ past-end s m r a o h f (inr (inl p)) = absurd (none-and-some p.1 f.1)
 past-end s m r a o h f (inr (inr p)) = inr (inl (ap (λ x. x.0) (same-some (sym f.1 ∙ p.1)), refl))
 
 past-next : (s : Stage) (x : Entry) (m r : ℕ) → Sound s → Fits s x → Past s m r → Past (next_stage s x) m r
-past-next s (Sp call point body) m r h f p = p
+past-next s (Sp call client point body) m r h f p = p
 past-next s (Frag a k body) m r h f p = past-round s m r a k body h f p
-past-next s (Done a (Kept call point)) m r h f p = past-end s m r a (Kept call point) h f.0 p
-past-next s (Done a (Aborted call point)) m r h f p = past-end s m r a (Aborted call point) h f.0 p
+past-next s (Done a (Kept call client point reply)) m r h f p = past-end s m r a (Kept call client point reply) h f.0 p
+past-next s (Done a (Aborted call client point reply)) m r h f p = past-end s m r a (Aborted call client point reply) h f.0 p
 past-next s (Done a Dropped) m r h f p = past-end s m r a Dropped h f p
 past-next s (Done a Snapshot) m r h f (inl p) = inl (omega (arith, p, f.1))
 past-next s (Done a Snapshot) m r h f (inr (inl p)) = inl (omega (arith, p.0, f.1))
@@ -236,13 +236,13 @@ round-last s (x ∷ xs) m r h k o e = absurd (past-never (next_stage s x) xs m r
     over a end f = inr (inl (ap (λ x. x.0) (same-some (sym f.1 ∙ o)), refl))
 
     gone : (y : Entry) → Fits s y → Past (next_stage s y) m r
-    gone (Sp call point body) f = absurd (none-and-some f.0 o)
+    gone (Sp call client point body) f = absurd (none-and-some f.0 o)
     gone (Frag a k body) (inl f) = absurd (none-and-some f.0 o)
     gone (Frag a k body) (inr f) =
         let same = same-some (sym f.1 ∙ o) in
         inr (inr (k, ap (λ x. Some (x, k)) (ap (λ x. x.0) same), omega (arith, f.2, ap (λ x. x.1) same)))
-    gone (Done a (Kept call point)) f = over a (Kept call point) f.0
-    gone (Done a (Aborted call point)) f = over a (Aborted call point) f.0
+    gone (Done a (Kept call client point reply)) f = over a (Kept call client point reply) f.0
+    gone (Done a (Aborted call client point reply)) f = over a (Aborted call client point reply) f.0
     gone (Done a Dropped) f = over a Dropped f
     gone (Done a Snapshot) f = absurd (none-and-some f.0 o)
 
@@ -258,13 +258,13 @@ frag-last s prefix more m r body h k e =
 -- Behind where nothing is open stand only calls, if no number is greater in the end.
 over-last : (s : Stage) (more : List Entry) → Sound s → WellFormed s more → s.opened ≡ None → (stage_behind s more).number ≤ s.number → OnlyCalls more
 over-last s [] h k o l = tt
-over-last s (Sp call point body ∷ xs) h k o l = (tt, over-last (record s { point = point }) xs h k.1 o l)
+over-last s (Sp call client point body ∷ xs) h k o l = (tt, over-last (record s { point = point }) xs h k.1 o l)
 over-last s (Frag a r body ∷ xs) h (inl f, k) o l =
     let x = Frag a r body in
     absurd (omega (arith, f.1, l, number-rises (next_stage s x) xs (next-sound s x h) k))
 over-last s (Frag a r body ∷ xs) h (inr f, k) o l = absurd (none-and-some o f.1)
-over-last s (Done a (Kept call point) ∷ xs) h k o l = absurd (none-and-some o k.0.0.1)
-over-last s (Done a (Aborted call point) ∷ xs) h k o l = absurd (none-and-some o k.0.0.1)
+over-last s (Done a (Kept call client point reply) ∷ xs) h k o l = absurd (none-and-some o k.0.0.1)
+over-last s (Done a (Aborted call client point reply) ∷ xs) h k o l = absurd (none-and-some o k.0.0.1)
 over-last s (Done a Dropped ∷ xs) h k o l = absurd (none-and-some o k.0.1)
 over-last s (Done a Snapshot ∷ xs) h k o l =
     let x = Done a Snapshot in
@@ -293,8 +293,8 @@ opened-no-end s es m r o h k e n i = ended s es m r o h k i e
 
 -- An end that fits where a transaction is open is its end.
 end-of-open : (s : Stage) (n m r : ℕ) (o : Outcome) → Fits s (Done n o) → s.opened ≡ Some (m, r) → n ≡ m
-end-of-open s n m r (Kept call point) f e = ap (λ y. y.0) (same-some (sym f.0.1 ∙ e))
-end-of-open s n m r (Aborted call point) f e = ap (λ y. y.0) (same-some (sym f.0.1 ∙ e))
+end-of-open s n m r (Kept call client point reply) f e = ap (λ y. y.0) (same-some (sym f.0.1 ∙ e))
+end-of-open s n m r (Aborted call client point reply) f e = ap (λ y. y.0) (same-some (sym f.0.1 ∙ e))
 end-of-open s n m r Dropped f e = ap (λ y. y.0) (same-some (sym f.1 ∙ e))
 end-of-open s n m r Snapshot f e = absurd (none-and-some f.0 e)
 
@@ -302,7 +302,7 @@ end-of-open s n m r Snapshot f e = absurd (none-and-some f.0 e)
 pub opened-point : (s : Stage) (es : List Entry) (m a b : ℕ) → Sound s → WellFormed s es → s.opened ≡ Some (m, a) → (stage_behind s es).opened ≡ Some (m, b)
     → (stage_behind s es).point ≡ s.point
 opened-point s [] m a b h k e f = refl
-opened-point s (Sp call point body ∷ xs) m a b h k e f = absurd (none-and-some k.0.0 e)
+opened-point s (Sp call client point body ∷ xs) m a b h k e f = absurd (none-and-some k.0.0 e)
 opened-point s (Frag n r body ∷ xs) m a b h (inl g, k) e f = absurd (none-and-some g.0 e)
 opened-point s (Frag n r body ∷ xs) m a b h (inr g, k) e f =
     let x = Frag n r body in
@@ -315,7 +315,7 @@ opened-point s (Done n o ∷ xs) m a b h k e f =
 pub open-ends : (s : Stage) (es : List Entry) (m r : ℕ) → WellFormed s es → s.opened ≡ Some (m, r) → (stage_behind s es).opened ≡ None
     → (o : Outcome) × In (Done m o) es
 open-ends s [] m r k e f = absurd (none-and-some f e)
-open-ends s (Sp call point body ∷ xs) m r k e f = absurd (none-and-some k.0.0 e)
+open-ends s (Sp call client point body ∷ xs) m r k e f = absurd (none-and-some k.0.0 e)
 open-ends s (Frag n a body ∷ xs) m r (inl g, k) e f = absurd (none-and-some g.0 e)
 open-ends s (Frag n a body ∷ xs) m r (inr g, k) e f =
     let same = ap (λ y. y.0) (same-some (sym g.1 ∙ e)) in
@@ -341,14 +341,14 @@ shut-round s m a k body h (inr f) c = (omega (arith, c.0, h a f.0 f.1), λ r e. 
 
 -- It stays so.
 shut-next : (s : Stage) (x : Entry) (m : ℕ) → Sound s → Fits s x → Shut s m → Shut (next_stage s x) m
-shut-next s (Sp call point body) m h f c = c
+shut-next s (Sp call client point body) m h f c = c
 shut-next s (Frag a k body) m h f c = shut-round s m a k body h f c
 shut-next s (Done a o) m h f c = (omega (arith, c.0, next-number s (Done a o) h f), λ r e. none-and-some refl e)
 
 -- Its end doesn't fit there
 shut-unfit : (s : Stage) (m : ℕ) (o : Outcome) → Shut s m → Fits s (Done m o) → ⊥
-shut-unfit s m (Kept call point) c f = c.1 f.0.0 f.0.1
-shut-unfit s m (Aborted call point) c f = c.1 f.0.0 f.0.1
+shut-unfit s m (Kept call client point reply) c f = c.1 f.0.0 f.0.1
+shut-unfit s m (Aborted call client point reply) c f = c.1 f.0.0 f.0.1
 shut-unfit s m Dropped c f = c.1 f.0 f.1
 shut-unfit s m Snapshot c f = omega (arith, c.0, f.1)
 
@@ -375,7 +375,7 @@ OpenOf n s = (m r : ℕ) → s.opened ≡ Some (m, r) → m ≡ n
 
 open-of : (s : Stage) (es : List Entry) (n : ℕ) → OpenOf n s → AllByRecursion (OfNumber n) es → OpenOf n (stage_behind s es)
 open-of s [] n h k = h
-open-of s (Sp call point body ∷ xs) n h k = open-of (record s { point = point }) xs n h k.1
+open-of s (Sp call client point body ∷ xs) n h k = open-of (record s { point = point }) xs n h k.1
 open-of s (Frag a b body ∷ xs) n h k = open-of (next_stage s (Frag a b body)) xs n (λ m r e. sym (ap (λ y. y.0) (same-some e)) ∙ k.0) k.1
 open-of s (Done a o ∷ xs) n h k = open-of (next_stage s (Done a o)) xs n (λ m r e. absurd (none-and-some refl e)) k.1
 
@@ -386,7 +386,7 @@ opened-number s es n m r e h f = open-of s es n (λ a b g. absurd (none-and-some
 -- the greatest number is its, unless all are calls
 pub only-number : (s : Stage) (es : List Entry) (n : ℕ) → AllByRecursion (OfNumber n) es → OnlyCalls es ⊎ ((stage_behind s es).number ≡ n)
 only-number s [] n h = inl tt
-only-number s (Sp call point body ∷ xs) n h = elim (only-number (record s { point = point }) xs n h.1) [ inl c ↦ inl (tt, c) | inr e ↦ inr e ]
+only-number s (Sp call client point body ∷ xs) n h = elim (only-number (record s { point = point }) xs n h.1) [ inl c ↦ inl (tt, c) | inr e ↦ inr e ]
 only-number s (Frag a b body ∷ xs) n h = let u = next_stage s (Frag a b body) in elim (only-number u xs n h.1) [
   | inl c ↦ inr (calls-number u xs c ∙ h.0)
   | inr e ↦ inr e
@@ -398,7 +398,7 @@ only-number s (Done a o ∷ xs) n h = let u = next_stage s (Done a o) in elim (o
 open-behind : (s : Stage) (now : Option ℕ) (log : List Entry) → now ≡ option_map (λ x. x.0) s.opened
     → open_behind now log ≡ option_map (λ x. x.0) (stage_behind s log).opened
 open-behind s now [] e = e
-open-behind s now (Sp call point body ∷ xs) e = open-behind (record s { point = point }) now xs e
+open-behind s now (Sp call client point body ∷ xs) e = open-behind (record s { point = point }) now xs e
 open-behind s now (Frag m r body ∷ xs) e = open-behind (next_stage s (Frag m r body)) (Some m) xs refl
 open-behind s now (Done m o ∷ xs) e = open-behind (next_stage s (Done m o)) None xs refl
 
@@ -408,7 +408,7 @@ open_in-stage E p log = open-behind (first_stage E p) None log refl
 number-behind : (s : Stage) (last : Option (ℕ × Outcome)) (log : List Entry) → (s.opened ≡ None → number_of last ≡ s.number) → (stage_behind s log).opened ≡ None
     → number_of (done_behind last log) ≡ (stage_behind s log).number
 number-behind s last [] h e = h e
-number-behind s last (Sp call point body ∷ xs) h e = number-behind (record s { point = point }) last xs h e
+number-behind s last (Sp call client point body ∷ xs) h e = number-behind (record s { point = point }) last xs h e
 number-behind s last (Frag m r body ∷ xs) h e = number-behind (next_stage s (Frag m r body)) last xs (λ f. absurd (none-and-some f refl)) e
 number-behind s last (Done m o ∷ xs) h e = number-behind (next_stage s (Done m o)) (Some (m, o)) xs (λ f. refl) e
 
@@ -420,14 +420,14 @@ last-number E p log h e = number-behind (first_stage E p) (E.opening_done p) log
 
 pub done-append : (last : Option (ℕ × Outcome)) (xs ys : List Entry) → done_behind last (xs ++ ys) ≡ done_behind (done_behind last xs) ys
 done-append last [] ys = refl
-done-append last (Sp call point body ∷ xs) ys = done-append last xs ys
+done-append last (Sp call client point body ∷ xs) ys = done-append last xs ys
 done-append last (Frag m r body ∷ xs) ys = done-append last xs ys
 done-append last (Done m o ∷ xs) ys = done-append (Some (m, o)) xs ys
 
 -- it was there before, or is one of these
 done-from : (last : Option (ℕ × Outcome)) (es : List Entry) (n : ℕ) (o : Outcome) → done_behind last es ≡ Some (n, o) → (last ≡ Some (n, o)) ⊎ In (Done n o) es
 done-from last [] n o e = inl e
-done-from last (Sp call point body ∷ xs) n o e = elim (done-from last xs n o e) [ inl f ↦ inl f | inr i ↦ inr (inr i) ]
+done-from last (Sp call client point body ∷ xs) n o e = elim (done-from last xs n o e) [ inl f ↦ inl f | inr i ↦ inr (inr i) ]
 done-from last (Frag m r body ∷ xs) n o e = elim (done-from last xs n o e) [ inl f ↦ inl f | inr i ↦ inr (inr i) ]
 done-from last (Done m a ∷ xs) n o e = elim (done-from (Some (m, a)) xs n o e) [
   | inl f ↦ inr (inl (ap (λ x. Done x.0 x.1) (same-some f)))
@@ -438,7 +438,7 @@ done-from last (Done m a ∷ xs) n o e = elim (done-from (Some (m, a)) xs n o e)
 done-number : (s : Stage) (last : Option (ℕ × Outcome)) (es : List Entry) → Sound s → WellFormed s es → number_of last ≤ s.number
     → number_of (done_behind last es) ≤ (stage_behind s es).number
 done-number s last [] h k l = l
-done-number s last (Sp call point body ∷ xs) h k l = done-number (record s { point = point }) last xs h k.1 l
+done-number s last (Sp call client point body ∷ xs) h k l = done-number (record s { point = point }) last xs h k.1 l
 done-number s last (Frag m r body ∷ xs) h k l =
     let x = Frag m r body in
     done-number (next_stage s x) last xs (next-sound s x h) k.1 (omega (arith, l, next-number s x h k.0))
@@ -457,25 +457,25 @@ last-in E p prefix es n o h l e = elim (done-from (last_done E p prefix) es n o 
 -- calls leave it as it is
 pub calls-done : (last : Option (ℕ × Outcome)) (es : List Entry) → OnlyCalls es → done_behind last es ≡ last
 calls-done last [] h = refl
-calls-done last (Sp call point body ∷ es) h = calls-done last es h.1
+calls-done last (Sp call client point body ∷ es) h = calls-done last es h.1
 calls-done last (x ∷ es) h = absurd h.0
 
 -- Where nothing is open, entries of a number that isn't above the greatest one are calls.
 only-again : (s : Stage) (es : List Entry) (n : ℕ) → WellFormed s es → AllByRecursion (OfNumber n) es → s.opened ≡ None → n ≤ s.number → OnlyCalls es
 only-again s [] n h a e l = tt
-only-again s (Sp call point body ∷ es) n h a e l = (tt, only-again (record s { point = point }) es n h.1 a.1 e l)
+only-again s (Sp call client point body ∷ es) n h a e l = (tt, only-again (record s { point = point }) es n h.1 a.1 e l)
 only-again s (Frag m r body ∷ es) n (inl f, h) a e l = absurd (omega (arith, f.1, a.0, l))
 only-again s (Frag m r body ∷ es) n (inr f, h) a e l = absurd (none-and-some e f.1)
-only-again s (Done m (Kept call point) ∷ es) n h a e l = absurd (none-and-some e h.0.0.1)
-only-again s (Done m (Aborted call point) ∷ es) n h a e l = absurd (none-and-some e h.0.0.1)
+only-again s (Done m (Kept call client point reply) ∷ es) n h a e l = absurd (none-and-some e h.0.0.1)
+only-again s (Done m (Aborted call client point reply) ∷ es) n h a e l = absurd (none-and-some e h.0.0.1)
 only-again s (Done m Dropped ∷ es) n h a e l = absurd (none-and-some e h.0.1)
 only-again s (Done m Snapshot ∷ es) n h a e l = absurd (omega (arith, h.0.1, a.0, l))
 
 in-done : (s : Stage) (last : Option (ℕ × Outcome)) (es : List Entry) (n : ℕ) (o : Outcome) → WellFormed s es → AllByRecursion (OfNumber n) es → In (Done n o) es
     → done_behind last es ≡ Some (n, o)
 in-done s last [] n o h a i = absurd i
-in-done s last (Sp call point body ∷ es) n o h a (inl q) = absurd (cc)
-in-done s last (Sp call point body ∷ es) n o h a (inr i) = in-done (record s { point = point }) last es n o h.1 a.1 i
+in-done s last (Sp call client point body ∷ es) n o h a (inl q) = absurd (cc)
+in-done s last (Sp call client point body ∷ es) n o h a (inr i) = in-done (record s { point = point }) last es n o h.1 a.1 i
 in-done s last (Frag m r body ∷ es) n o h a (inl q) = absurd (cc)
 in-done s last (Frag m r body ∷ es) n o h a (inr i) = in-done (next_stage s (Frag m r body)) last es n o h.1 a.1 i
 in-done s last (Done m b ∷ es) n o h a (inr i) = in-done (next_stage s (Done m b)) (Some (m, b)) es n o h.1 a.1 i

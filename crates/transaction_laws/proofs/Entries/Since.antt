@@ -15,11 +15,11 @@ in-part D p i = let l = (in-range p 0 (parts D) i).1 in grind (arith, nat_tests,
 
 -- They are of any number, and no rounds.
 pub call-number : (n : ℕ) (x : Entry) → IsCall x → OfNumber n x
-call-number n (Sp call point body) h = tt
+call-number n (Sp call client point body) h = tt
 call-number n x h = absurd h
 
 pub call-round : (x : Entry) → IsCall x → NoRound x
-call-round (Sp call point body) h = tt
+call-round (Sp call client point body) h = tt
 call-round (Frag m round body) h = h
 call-round (Done m o) h = tt
 
@@ -34,8 +34,8 @@ pub calls-no-end : (es : List Entry) (m : ℕ) (o : Outcome) → OnlyCalls es �
 calls-no-end es m o h i = all-at IsCall es h (Done m o) i
 
 -- nor orders
-call-no-order : (e : Entry) → IsCall e → IsOrder e → ⊥
-call-no-order (Sp call point body) k o = o
+pub call-no-order : (e : Entry) → IsCall e → IsOrder e → ⊥
+call-no-order (Sp call client point body) k o = o
 call-no-order (Frag m round body) k o = k
 call-no-order (Done m o) k x = k
 
@@ -51,7 +51,7 @@ whole-led S K p t g led none = ap (λ r. led_log r ++ K.due p t) led ∙ ap (λ 
 -- where no round is, nothing is opened
 pub no-round-opened : (s : Stage) (es : List Entry) → AllByRecursion NoRound es → s.opened ≡ None → (stage_behind s es).opened ≡ None
 no-round-opened s [] h e = e
-no-round-opened s (Sp call point body ∷ es) h e = no-round-opened (record s { point = point }) es h.1 e
+no-round-opened s (Sp call client point body ∷ es) h e = no-round-opened (record s { point = point }) es h.1 e
 no-round-opened s (Frag m round body ∷ es) h e = absurd h.0
 no-round-opened s (Done m o ∷ es) h e = no-round-opened _ es h.1 refl
 

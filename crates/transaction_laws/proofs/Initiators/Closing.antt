@@ -1,13 +1,14 @@
 -- An initiator that has heard of all partitions closes what is open in some, and then goes on.
 use Rattle.volt_wire.specs.declared.message.Msg.TheVariants as msg
-use Rattle.transaction_laws.proofs.Names.{AgentState, Aligned, Books, Bool, Database, Done, Entry, Firm, Heard, HeardPart, In, Initiates, IsEnded, IsPart, JobOk, List, LogState, LogsHold, Membership, None, Option, Outcome, Settled, Some, Transactions, [], and_from, and_parts, ap, cases_Bool, closes_open, closing_outcome, done_to, eq-eqb, false, false_from_ne_true, filter, filter-in, first_stage, in-filter, in-is_in, in-map, in-map-from, inl, inr, is_in, is_in-in, not-both, open_parts, open_told, own_decision, refl, stage, subst, sym, term_of, true, true≢false, whole, ℕ, ◌&&◌, ◌<◌, ◌==◌, ◌∙◌, ◌∷◌, ◌≡◌, ◌≤◌, ◌⊎◌}
-use Rattle.transaction_laws.proofs.Kept.{InitiatorGoes, aligned-later, part-agreed}
-use Rattle.transaction_laws.proofs.Entries.{stage-append, OpenAt, Closing, EndsOrSame, closing-point, aligned-ended}
-use Rattle.transaction_laws.proofs.Initiators.Orders.{LaidOut, due_with, due-kept, sends-goes}
+use Rattle.transaction_laws.proofs.Names.{AgentState, Aligned, AllByRecursion, Books, Bool, CallsOk, Covered, CoversAll, Database, Done, Entry, EntryAsked, Firm, Frag, Heard, HeardPart, In, Initiates, IsEnded, IsPart, JobOk, KnownReply, LastReply, List, LogState, LogsHold, MayEnd, Membership, None, OfNumber, Option, Outcome, OutcomeAsked, OutcomeOf, RepliesRise, Settled, Some, Sp, Transactions, Work, [], all-at, call_of, calls_of, and_from, and_parts, ap, arith, cases_Bool, closes_open, closing_outcome, done_to, eq-eqb, false, false_from_ne_true, filter, filter-in, first_stage, in-filter, in-cases, in-is_in, in-map, in-map-from, inl, inr, is_in, is_in-in, none-and-some, not-both, open_parts, open_told, own_decision, refl, same-some, since, stage, subst, sym, term_of, true, true≢false, whole, ℕ, ◌&&◌, ◌++◌, ◌<◌, ◌==◌, ◌∙◌, ◌∷◌, ◌≡◌, ◌≤◌, ◌⊎◌}
+use Rattle.transaction_laws.proofs.Kept.{InitiatorActs, aligned-later, part-agreed, settled-with}
+use Rattle.transaction_laws.proofs.Entries.{call-entry, calls-since, end-part, entry-call, first-sound, formed-since, kinds-apart, log-since, ok-more, opened-no-end, stage-append, stage-since, stage-sound, OpenAt, Closing, EndsOrSame, closing-point, aligned-ended}
+use Rattle.transaction_laws.proofs.Initiators.Orders.{LaidOut, Once, books-once, due_with, due-kept, sends-goes}
 use Rattle.transaction_laws.proofs.Initiators.Beginning.{whole-to, whole-else}
-use Rattle.transaction_laws.proofs.Initiators.Settling.{settles-goes}
+use Rattle.transaction_laws.proofs.Initiators.Settling.{settled-logs, settles-goes}
+use Rattle.transaction_laws.proofs.Initiators.Answering.{JobsAsked}
 use Rattle.transaction_laws.proofs.Initiators.Told.{ToldIs, open-some, open-none, told-settled}
-use Rattle.transaction_laws.proofs.Initiators.Outcomes.{open-at, closing-ends, closing-job}
+use Rattle.transaction_laws.proofs.Initiators.Outcomes.{open-at, closing-covered, closing-ends, closing-job}
 
 -- ---- the history once the end is sent to where the transaction is open
 
@@ -39,22 +40,72 @@ module _ (E : Database) (S : LogState) (F : Firm) (K : Transactions) (now : ℕ)
   each q other = let h = B.heard.each q other in
       part-agreed S F K K.number (Some o) K.decided after.due q h (λ x is. h.decided x (closing-point E S.words.deployment now K log B.heard.aligned o c x is))
 
+  -- Each call stands once, still: where it is open its end doesn't stand yet, and no end before is of its call.
+  closing-asked : OutcomeAsked K.submitted o
+  closing-asked = elim c [ inl (dropped, nowhere) ↦ subst (OutcomeAsked K.submitted) (sym dropped) tt | inr (agreed, d) ↦ (B.heard.ends o agreed).asked ]
+
+  closing-unapplied : (n : ℕ) → In n (call_of e) → (q : ℕ) → IsPart S q → In n (calls_of (K.closed q)) → ⊥
+  closing-unapplied n i q other j = elim c [
+    | inl (dropped, nowhere) ↦ absurd (subst (λ z. In n (call_of (Done K.number z))) dropped i)
+    | inr (agreed, d) ↦ (B.heard.ends o agreed).unapplied n i q other j
+  ]
+
+  fresh-there : (q : ℕ) (other : IsPart S q) → to q ≡ true → (n : ℕ) → In n (call_of e) → In n (calls_of (log q)) → ⊥
+  fresh-there q other y n i j = elim (in-cases x.0 (K.closed q) (since K log q) (subst (In x.0) split x.1)) [
+    | inl a ↦ closing-unapplied n i q other (entry-call n x.0 (K.closed q) a x.2)
+    | inr a ↦ behind x.0 (all-at (EntryAsked K.submitted q) (log q) ok.asked x.0 x.1) x.2 (all-at (OfNumber K.number) (since K log q) (B.heard.aligned.only q other) x.0 a) a
+  ]
+    where
+      ok : CallsOk K.submitted q (log q)
+      ok = (books-once E S F K now B).calls q other
+
+      x : (x : Entry) × In x (log q) × In n (call_of x)
+      x = call-entry n (log q) j
+
+      split : log q ≡ K.closed q ++ since K log q
+      split = log-since E S.words.deployment now K log B.heard.aligned q other
+
+      behind : (z : Entry) → EntryAsked K.submitted q z → In n (call_of z) → OfNumber K.number z → In z (since K log q) → ⊥
+      behind (Sp call client point body) asked h m a =
+          let r = end-part K.submitted q n e closing-asked (λ k. k) i in kinds-apart K.submitted q n (Sp call client point body) asked tt h r.0 r.1 r.2
+      behind (Frag m round body) asked h k a = h
+      behind (Done m d) asked h k a =
+          let (r, is) = opened q other y in
+          opened-no-end (stage E q (K.closed q)) (since K log q) K.number r d (stage-sound (first_stage E q) (K.closed q) (first-sound E q))
+          (formed-since E S.words.deployment now K log B.heard.aligned q other) (ap (λ s. s.opened) (sym (stage-since E S.words.deployment now K log B.heard.aligned q other)) ∙ is)
+          (B.heard.aligned.over q other) (subst (λ z. In (Done z d) (since K log q)) k a)
+
+  once : Once E S after
+  once = record {
+    calls = λ q other. let ok = (books-once E S F K now B).calls q other in elim (cases_Bool (to q)) [
+      | inl y ↦ subst (CallsOk K.submitted q) (sym (whole-to S K to e q other y)) (ok-more K.submitted q (log q) e ok closing-asked (fresh-there q other y))
+      | inr n ↦ subst (CallsOk K.submitted q) (sym (whole-else S K to e q n)) ok
+    ];
+    ends = λ z is. subst (MayEnd E S after) (same-some is) (record {
+      asked = closing-asked;
+      unapplied = closing-unapplied;
+      new = λ q other same. none-and-some (calls-since E S.words.deployment now K log B.heard.aligned p part (B.heard.aligned.fresh q p other part same)).0 at;
+    });
+  }
+
+  -- What covers all ends and this one covers all then.
+  covers : (replies : List LastReply) → Covered replies o → CoversAll S K replies → CoversAll S after replies
+  covers replies here k q m z other i = elim (cases_Bool (to q)) [
+    | inl y ↦ elim (in-cases (Done m z) (log q) (e ∷ []) (subst (In (Done m z)) (whole-to S K to e q other y) i)) [
+      | inl j ↦ k q m z other j
+      | inr (inl is) ↦ let same : o ≡ z = cc in subst (Covered replies) same here
+      | inr (inr j) ↦ absurd j
+    ]
+    | inr n ↦ k q m z other (subst (In (Done m z)) (whole-else S K to e q n) i)
+  ]
+
   -- There it ends, once it is taken.
   closed-ended : (q : ℕ) → IsPart S q → to q ≡ true → IsEnded E S after q
   closed-ended q other y = let s = ap (stage E q) (whole-to S K to e q other y) ∙ stage-append (first_stage E q) (log q) (e ∷ []) in (ap (λ s. s.opened) s, ap (λ s. s.number) s)
 
   -- Elsewhere what is settled stays so.
   still-settled : (q : ℕ) → to q ≡ false → Settled E S F K q → Settled E S F after q
-  still-settled q n s = record {
-    none = due-kept S K to e q K.heard n ∙ s.none;
-    leadership = s.leadership;
-    led = s.led;
-    prefix = s.prefix;
-    stands = s.stands;
-    calls = s.calls;
-    everywhere = s.everywhere;
-    over = s.over;
-  }
+  still-settled q n s = settled-with E S F K after q refl (due-kept S K to e q K.heard n ∙ s.none) s
 
 -- ---- the turn
 
@@ -73,7 +124,10 @@ open-in m told x i is q = in-is_in x.part (open_parts m told)
 module _ (E : Database) (S : LogState) (F : Firm) (K : Transactions) (now stamp n : ℕ) (w : Membership) (lay : LaidOut S) (H : LogsHold S) (B : Books E S F K now) (l : now ≤ stamp)
     (i : Initiates S n w) (a : AgentState) (start : a.start ≡ (S.words.agents n).start) (word : a.decided ≡ Some w) (heard : K.heard ≡ term_of w) (next : K.number < a.initiating.next)
     (job : JobOk K a.initiating.work) (told : List Heard) (stand : (x : Heard) → In x told → ToldIs E S F K x)
-    (tells : (p : ℕ) → IsPart S p → (x : Heard) × In x told × (x.part ≡ p)) where
+    (tells : (p : ℕ) → IsPart S p → (x : Heard) × In x told × (x.part ≡ p)) (rise : RepliesRise a.initiating.replies) (covered : CoversAll S K a.initiating.replies)
+    (decided : (x : Work) (o : Outcome) → a.initiating.work ≡ Some x → x.decision ≡ Some o → Covered a.initiating.replies o)
+    (known : AllByRecursion (KnownReply S F K.submitted K.heard a.initiating.work) a.initiating.replies) (asks : JobsAsked K.submitted a.initiating)
+    (outcome : (x : Work) (o : Outcome) → a.initiating.work ≡ Some x → x.decision ≡ Some o → OutcomeOf x.job o) where
   none : (p : ℕ) → IsPart S p → K.due p K.heard ≡ []
   none p part = let (x, j, at) = tells p part in subst (λ q. K.due q K.heard ≡ []) at (stand x j).none
 
@@ -115,20 +169,34 @@ module _ (E : Database) (S : LogState) (F : Firm) (K : Transactions) (now stamp 
         either (inl out) = still-settled E S F K now B y.part at.0 (stand y here).part at.1 o ends to opened none p out (settled p part (shut out))
         either (inr never) = absurd (true≢false (sym never))
 
-    closes-goes : InitiatorGoes E S F K stamp n w a (closes_open E S.words.deployment n a told (Some K.number))
+    closes-goes : InitiatorActs E S F K stamp n w a (closes_open E S.words.deployment n a told (Some K.number))
     closes-goes = let parts = open_parts K.number told in sends-goes E S F K closed now stamp n w lay H B l i heard a (closes_open E S.words.deployment n a told (Some K.number)).state
         (msg.Done K.number o) (Done K.number o) to (done_to S.words.deployment a.decided parts K.number o) (ap (λ d. done_to S.words.deployment d parts K.number o) word) refl tt refl refl
         (λ p part _. none p part) (each E S F K now B y.part at.0 (stand y here).part at.1 o ends to opened none)
-        (aligned-later E S.words.deployment now stamp l closed (whole S closed K.heard) (aligned E S F K now B y.part at.0 (stand y here).part at.1 o ends to opened none)) refl refl refl
+        (aligned-later E S.words.deployment now stamp l closed (whole S closed K.heard) (aligned E S F K now B y.part at.0 (stand y here).part at.1 o ends to opened none))
+        (once E S F K now B y.part at.0 (stand y here).part at.1 o ends to opened none) refl refl refl refl
         (heard, refl, closing-job E S F K now B told stand tells y here still a.initiating.work job closed.due, next, each-closes)
+        (record {
+          rise = rise;
+          covers = covers E S F K now B y.part at.0 (stand y here).part at.1 o ends to opened none a.initiating.replies
+              (closing-covered E S F K now B told stand tells y here still a.initiating.work job a.initiating.replies covered decided) covered;
+          decided = decided;
+          fresh = λ x works. absurd (cc);
+          from = known;
+          first = λ z. absurd (omega (arith, z, next));
+          outcome = outcome;
+        })
 
   -- It closes what is open, or goes on.
-  pub closes_open-goes : InitiatorGoes E S F K stamp n w a (closes_open E S.words.deployment n a told (open_told told))
+  pub closes_open-goes : InitiatorActs E S F K stamp n w a (closes_open E S.words.deployment n a told (open_told told))
   closes_open-goes = choice (open_told told) refl
     where
-      choice : (m : Option ℕ) → open_told told ≡ m → InitiatorGoes E S F K stamp n w a (closes_open E S.words.deployment n a told m)
-      choice None is = settles-goes E S F K now stamp n w lay H B l i a start word heard next (λ p part. settled p part (λ x j _. open-none told is x j))
+      choice : (m : Option ℕ) → open_told told ≡ m → InitiatorActs E S F K stamp n w a (closes_open E S.words.deployment n a told m)
+      choice None is =
+          let all : (p : ℕ) → IsPart S p → Settled E S F K p = λ p part. settled p part (λ x j _. open-none told is x j) in
+          settles-goes E S F K now stamp n w lay H B l i a start word heard next all rise covered
+          (settled-logs E S F K now B all lay a.initiating.work job a.initiating.replies known) asks.0 job asks.1 outcome
       choice (Some m) is =
           let (y, here, o, at) = open-some told m is in
           let number = sym (open-at E S F K now B told stand tells y here o y here o).0 ∙ at in
-          subst (λ z. InitiatorGoes E S F K stamp n w a (closes_open E S.words.deployment n a told (Some z))) number (closes-goes y here o)
+          subst (λ z. InitiatorActs E S F K stamp n w a (closes_open E S.words.deployment n a told (Some z))) number (closes-goes y here o)

@@ -1,7 +1,7 @@
 -- Rounds and ends that an initiator sends to the leaders of its word.
 use Rattle.volt_wire.specs.declared.message.Msg.TheVariants as msg
-use Rattle.transaction_laws.proofs.Names.{AgentState, Aligned, AllByRecursion, Blocks, Books, Bool, Database, DueOk, Entry, Firm, HeardOk, HeardPart, In, Initiates, IsLaidOut, IsOrder, IsPart, IsSlot, Leadership, LeadershipFits, Letter, List, LogState, LogsHold, Membership, Msg, None, Option, OrderOk, PhaseOk, Sends, Site, Some, Transactions, [], and_from, and_left, and_parts, and_right, ap, append-nil, arith, cases_eq, eq-eqb, eqb-same, eqb-true, false, false_from_ne_true, if-false, if-true, if◌then◌else◌, inl, inr, is_some_of, is_some_of-is, leader, led_log, letter_in, lt-ltb, ltb-true, names, nat_le, nat_lt, nat_tests, order_in, order_of, orders, part, parts, refl, sending, slots, some-here, some-start, some-term, start_of_slot, subst, sym, term_of, to_leader, to_leaders, true, whole, ℕ, ◌%◌, ◌&&◌, ◌*◌, ◌++◌, ◌+◌, ◌/◌, ◌<◌, ◌==◌, ◌∙◌, ◌∷◌, ◌≡◌, ◌≤◌}
-use Rattle.transaction_laws.proofs.Kept.{SendsDue, SentOrder, InitiatorGoes}
+use Rattle.transaction_laws.proofs.Names.{AgentState, Aligned, AllByRecursion, Blocks, Books, Bool, CallsOk, Database, Deployment, DueOk, Entry, Firm, HeardOk, HeardPart, In, Initiates, IsLaidOut, IsOrder, IsPart, IsSlot, Knows, Leadership, LeadershipFits, Letter, List, LogState, LogsHold, MayEnd, Membership, Msg, None, Option, OrderOk, Outcome, PhaseOk, Replied, Sends, Site, Some, Transactions, [], and_from, and_left, and_parts, and_right, all-if, ap, append-nil, arith, cases_eq, eq-eqb, eqb-same, eqb-true, false, false_from_ne_true, if-false, if-true, if◌then◌else◌, inl, inr, is_some_of, is_some_of-is, leader, led_log, letter_in, lt-ltb, ltb-true, names, nat_le, nat_lt, nat_tests, order_in, order_of, orders, part, part_of_slot, parts, refl, sending, slots, some-here, some-start, some-term, start_of_slot, subst, sym, term_of, to_leader, to_leaders, true, whole, ℕ, ◌%◌, ◌&&◌, ◌*◌, ◌++◌, ◌+◌, ◌/◌, ◌<◌, ◌==◌, ◌∙◌, ◌∷◌, ◌≡◌, ◌≤◌}
+use Rattle.transaction_laws.proofs.Kept.{AllTell, Ending, SendsDue, SentOrder, InitiatorActs, Tells}
 
 -- the layout is one that isn't refused
 abbrev pub LaidOut : LogState → Type 0
@@ -122,14 +122,26 @@ orders-sent E S F K L now n w lay H B i heard m e is to due = record { letters =
     others : (p t : ℕ) → (t ≡ term_of w → ⊥) → L.due p t ≡ K.due p t
     others p t other = ap (λ f. f p t) due ∙ due-other S K to e p t (λ q. other (q ∙ heard))
 
+-- Each call stands once in the logs of all partitions, once those are taken that are due, and the last transaction may end as was agreed.
+pub record Once (E : Database) (S : LogState) (K : Transactions) : Type 0 where
+  pub calls : (p : ℕ) → IsPart S p → CallsOk K.submitted p (whole S K K.heard p)
+  pub ends : (o : Outcome) → K.agreed ≡ Some o → MayEnd E S K o
+
+pub books-once : (E : Database) (S : LogState) (F : Firm) (K : Transactions) (now : ℕ) → Books E S F K now → Once E S K
+books-once E S F K now B = record {
+  calls = λ p part. let h = B.heard.each p part in
+      subst (λ o. CallsOk K.submitted p (led_log o ++ K.due p K.heard)) (sym h.led) (B.leaderships p K.heard h.leadership part h.led).calls;
+  ends = B.heard.ends;
+}
+
 -- So all holds, with a history in which this is due: where nothing was, and the entry fits.
 orders-books : (E : Database) (S : LogState) (F : Firm) (K L : Transactions) (now stamp : ℕ) (e : Entry) (to : ℕ → Bool) → Books E S F K now → now ≤ stamp → IsOrder e
     → L.heard ≡ K.heard → L.due ≡ due_with S K to e
     → ((p : ℕ) → IsPart S p → to p ≡ true → K.due p K.heard ≡ [])
     → ((p : ℕ) → IsPart S p → HeardPart S F L p)
-    → Aligned E S.words.deployment stamp L (whole S L L.heard)
+    → Aligned E S.words.deployment stamp L (whole S L L.heard) → Once E S L → L.submitted ≡ K.submitted
     → Books E S F L stamp
-orders-books E S F K L now stamp e to B l order heard due none each aligned = record { due = dues; leaderships = fits; heard = ok }
+orders-books E S F K L now stamp e to B l order heard due none each aligned once submitted = record { due = dues; leaderships = fits; heard = ok }
   where
     due-at : (p t : ℕ) → L.due p t ≡ due_with S K to e p t
     due-at p t = ap (λ f. f p t) due
@@ -161,11 +173,11 @@ orders-books E S F K L now stamp e to B l order heard due none each aligned = re
     fits p t g part led = elim (cases_eq t L.heard) [
       | inl q ↦
           let same : whole S L L.heard p ≡ g.log ++ L.due p t = ap (λ o. led_log o ++ L.due p L.heard) (ap (S.logs.leadership p) (sym q) ∙ led) ∙ ap (λ u. g.log ++ L.due p u) (sym q) in
-          record { formed = rw same at (aligned.formed p part); past = rw same at (aligned.past p part); unheard = λ b. absurd (omega (arith, b, q)) }
+          record { formed = rw same at (aligned.formed p part); past = rw same at (aligned.past p part); unheard = λ b. absurd (omega (arith, b, q)); calls = rw same at (once.calls p part) }
       | inr d ↦
           let same : L.due p t ≡ K.due p t = due-at p t ∙ due-other S K to e p t (λ q. d (q ∙ sym heard)) in
           let k = B.leaderships p t g part led in
-          record { formed = rw same k.formed; past = rw same (omega (arith, l, k.past)); unheard = λ b. k.unheard (omega (arith, b, heard)) }
+          record { formed = rw same k.formed; past = rw same (omega (arith, l, k.past)); unheard = λ b. k.unheard (omega (arith, b, heard)); calls = rw (same, submitted) k.calls }
     ]
 
     ok : HeardOk E S F L stamp
@@ -175,21 +187,44 @@ orders-books E S F K L now stamp e to B l order heard due none each aligned = re
       by = λ h a first runs. omega (arith, heard, B.heard.by h a first runs);
       each = each;
       aligned = aligned;
+      ends = once.ends;
     }
+
+-- A round or an end tells of no call.
+order-tells : (term start : ℕ) (m : Msg Blocks) (e : Entry) → order_in m ≡ e ∷ [] → (M R : Ending) → Tells M R (letter_in term start m)
+order-tells term start m e is M R = elim m as (λ m. order_in m ≡ e ∷ [] → Tells M R (letter_in term start m)) [
+  | msg.MpReply call x ↦ λ none. absurd (cc)
+  | msg.Answer call x ↦ λ none. absurd (cc)
+  | m ↦ λ _. tt
+] is
+
+leaders-tell : (D : Deployment) (w : Membership) (m : Msg Blocks) (e : Entry) → order_in m ≡ e ∷ [] → (to : ℕ → Bool) (M R : Ending) → AllTell M R (to_leaders D w to m)
+leaders-tell D w m e is to M R (Site c) = all-if (Tells M R) (to (part_of_slot D c) && is_some_of (leader D w (part_of_slot D c)) c) (to_leader D w m c (start_of_slot D w c)) [] (one (start_of_slot D w c)) tt
+  where
+    one : (o : Option ℕ) → AllByRecursion (Tells M R) (to_leader D w m c o)
+    one None = tt
+    one (Some a) = (order-tells (term_of w) a m e is M R, tt)
+leaders-tell D w m e is to M R b = tt
 
 -- A turn in which it sends this to leaders of partitions, with a history in which it is due.
 pub sends-goes : (E : Database) (S : LogState) (F : Firm) (K L : Transactions) (now stamp n : ℕ) (w : Membership) → LaidOut S → LogsHold S → Books E S F K now → now ≤ stamp → Initiates S n w
     → K.heard ≡ term_of w → (a b : AgentState) (m : Msg Blocks) (e : Entry) (to : ℕ → Bool) (out : Sends) → out ≡ to_leaders S.words.deployment w to m → order_in m ≡ e ∷ [] → IsOrder e
     → L.heard ≡ K.heard → L.due ≡ due_with S K to e → ((p : ℕ) → IsPart S p → to p ≡ true → K.due p K.heard ≡ []) → ((p : ℕ) → IsPart S p → HeardPart S F L p)
-    → Aligned E S.words.deployment stamp L (whole S L L.heard)
-    → b.start ≡ a.start → b.decided ≡ a.decided → b.waiting ≡ a.waiting → PhaseOk E S F L (term_of w) b b.initiating.phase → InitiatorGoes E S F K stamp n w a (sending b out)
-sends-goes E S F K L now stamp n w lay H B low i heard a b m e to out is one order same due none each aligned start decided waiting phase = record {
-  after = L;
-  books = orders-books E S F K L now stamp e to B low order same due none each aligned;
-  heard = omega (arith, same);
-  start = start;
-  decided = decided;
-  waiting = waiting;
-  phase = phase;
-  sends = subst (λ o. SendsDue S n w K L o) (sym is) (orders-sent E S F K L now n w lay H B i heard m e one to due);
+    → Aligned E S.words.deployment stamp L (whole S L L.heard) → Once E S L → L.submitted ≡ K.submitted
+    → b.start ≡ a.start → b.decided ≡ a.decided → b.waiting ≡ a.waiting → PhaseOk E S F L (term_of w) b b.initiating.phase → Knows S F L b.initiating → InitiatorActs E S F K stamp n w a (sending b out)
+sends-goes E S F K L now stamp n w lay H B low i heard a b m e to out is one order same due none each aligned once submitted start decided waiting phase knows = record {
+  goes = record {
+    after = L;
+    books = orders-books E S F K L now stamp e to B low order same due none each aligned once submitted;
+    heard = omega (arith, same);
+    start = start;
+    decided = decided;
+    waiting = waiting;
+    submitted = submitted;
+    phase = phase;
+    knows = knows;
+    sends = subst (λ o. SendsDue S n w K L o) (sym is) (orders-sent E S F K L now n w lay H B i heard m e one to due);
+  };
+  tells = subst (AllTell (Replied S.logs S.words.deployment F) (Replied S.logs S.words.deployment F)) (sym is)
+      (leaders-tell S.words.deployment w m e one to (Replied S.logs S.words.deployment F) (Replied S.logs S.words.deployment F));
 }

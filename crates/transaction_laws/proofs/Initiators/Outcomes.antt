@@ -1,6 +1,6 @@
 -- The outcome with which an initiator closes a transaction that partitions told open.
-use Rattle.transaction_laws.proofs.Names.{Aligned, Books, Database, Decision, Done, Entry, Firm, Heard, In, IsPart, JobOk, List, LogState, None, Option, Outcome, Some, Transactions, Work, ap, closing_outcome, eq-eqb, false, false_from_ne_true, first_outcome, first_stage, if-true, in-map, in-map-from, inl, inr, last_told, map, not-both, own_decision, refl, since, stage, stage_behind, subst, sym, true, whole, ℕ, ◌==◌, ◌∙◌, ◌≡◌}
-use Rattle.transaction_laws.proofs.Entries.{first-sound, stage-sound, opened-no-end, stage-since, formed-since, open-number, OpenAt, Closing, end_of, end-last, known-closing, open-no-snapshot}
+use Rattle.transaction_laws.proofs.Names.{Aligned, Books, Covered, CoversAll, Database, Done, Entry, Firm, Heard, In, IsPart, JobOk, LastReply, List, LogState, None, Option, Outcome, Some, Transactions, Work, ap, closing_outcome, eq-eqb, false, false_from_ne_true, first_outcome, first_stage, if-true, in-map, in-map-from, in-right, inl, inr, last_told, map, not-both, own_decision, refl, since, stage, stage_behind, subst, sym, true, whole, ℕ, ◌==◌, ◌∙◌, ◌≡◌}
+use Rattle.transaction_laws.proofs.Entries.{first-sound, stage-sound, opened-no-end, stage-since, formed-since, open-number, OpenAt, Closing, Standing, end_of, end-last, known-stands, log-since, open-no-snapshot, standing-closing}
 use Rattle.transaction_laws.proofs.Initiators.Told.{ToldIs, told-opened, told-last, last-shut}
 
 -- All partitions have told, and one that the transaction is open.
@@ -40,14 +40,25 @@ module _ (E : Database) (S : LogState) (F : Firm) (K : Transactions) (now : ℕ)
 
   -- ---- the outcome that is told first
 
-  told-closing : Closing S.words.deployment K log (first_outcome K.number (map last_told told))
-  told-closing = known-closing E S.words.deployment now K log A y.part (open-at y here still).1.0 (stand y here).part (open-at y here still).1.1 (map last_told told)
+  told-stands : Standing S.words.deployment K log (first_outcome K.number (map last_told told))
+  told-stands = known-stands E S.words.deployment now K log A y.part (open-at y here still).1.0 (stand y here).part (open-at y here still).1.1 (map last_told told)
       (λ q a other j.
       let (x, i, at) = tells q other in
       subst (λ e. In e (map last_told told)) (ended-told x i a (subst (λ z. In (Done K.number a) (since K log z)) (sym at) j)) (in-map last_told x told i))
       (λ a j.
       let (x, i, e) = in-map-from last_told (end_of K.number a) told j in
       (x.part, (stand x i).part, sym (told-last E S F K x (stand x i) (last-shut x (K.number, a) e)) ∙ e))
+
+  told-closing : Closing S.words.deployment K log (first_outcome K.number (map last_told told))
+  told-closing = standing-closing E S.words.deployment now K log A (first_outcome K.number (map last_told told)) told-stands
+
+  -- What covers all ends covers it.
+  told-covered : (replies : List LastReply) → CoversAll S K replies → Covered replies (first_outcome K.number (map last_told told))
+  told-covered replies covers = elim told-stands [
+    | inl (dropped, none) ↦ subst (Covered replies) (sym dropped) tt
+    | inr (q, other, i, call) ↦ let o = first_outcome K.number (map last_told told) in covers q K.number o other
+        (subst (In (Done K.number o)) (sym (log-since E S.words.deployment now K log A q other)) (in-right (Done K.number o) (K.closed q) (since K log q) i))
+  ]
 
   -- ---- the outcome with which it closes
 
@@ -58,15 +69,26 @@ module _ (E : Database) (S : LogState) (F : Firm) (K : Transactions) (now : ℕ)
   closing-ends None job = told-closing
   closing-ends (Some x) job = subst (λ d. Closing S.words.deployment K log (closing_outcome K.number told d)) (sym (own-is x job)) (choice x.decision refl)
     where
-      choice : (d : Option Decision) → x.decision ≡ d → Closing S.words.deployment K log (closing_outcome K.number told d)
+      choice : (d : Option Outcome) → x.decision ≡ d → Closing S.words.deployment K log (closing_outcome K.number told d)
       choice None e = told-closing
-      choice (Some d) e = inr (
-        job.1 d e,
-        λ q. open-no-snapshot E S.words.deployment now K log A y.part (open-at y here still).1.0 (stand y here).part (open-at y here still).1.1 (job.1 d e ∙ ap Some q),
+      choice (Some o) e = inr (
+        job.1 o e,
+        λ q. open-no-snapshot E S.words.deployment now K log A y.part (open-at y here still).1.0 (stand y here).part (open-at y here still).1.1 (job.1 o e ∙ ap Some q),
       )
 
   -- and its own job ends so
   pub closing-job : (work : Option Work) → JobOk K work → (due : ℕ → ℕ → List Entry)
       → JobOk (record K { agreed = Some (closing_outcome K.number told (own_decision K.number work)); due = due }) work
   closing-job None job due = tt
-  closing-job (Some x) job due = (job.0, λ d e. ap (λ z. Some (closing_outcome K.number told z)) (own-is x job ∙ e))
+  closing-job (Some x) job due = (job.0, λ o e. ap (λ z. Some (closing_outcome K.number told z)) (own-is x job ∙ e))
+
+  -- It is covered by what covers all ends and its own decision.
+  pub closing-covered : (work : Option Work) → JobOk K work → (replies : List LastReply) → CoversAll S K replies
+      → ((x : Work) (o : Outcome) → work ≡ Some x → x.decision ≡ Some o → Covered replies o) → Covered replies (closing_outcome K.number told (own_decision K.number work))
+  closing-covered None job replies covers decided = told-covered replies covers
+  closing-covered (Some x) job replies covers decided =
+      subst (λ d. Covered replies (closing_outcome K.number told d)) (sym (own-is x job)) (choice x.decision refl)
+    where
+      choice : (d : Option Outcome) → x.decision ≡ d → Covered replies (closing_outcome K.number told d)
+      choice None e = told-covered replies covers
+      choice (Some o) e = decided x o refl e

@@ -45,6 +45,6 @@ module _ (E : Database) (S : LogState) (F : Firm) (K : Transactions) (now : ℕ)
   pub resting-books : Books E S F (resting K closed number) now
   resting-books = record {
     due = B.due;
-    leaderships = λ p t g part led. let r = B.leaderships p t g part led in record { formed = r.formed; past = r.past; unheard = r.unheard };
-    heard = record { word = B.heard.word; is_word = B.heard.is_word; by = B.heard.by; each = each; aligned = aligned };
+    leaderships = λ p t g part led. let r = B.leaderships p t g part led in record { formed = r.formed; past = r.past; unheard = r.unheard; calls = r.calls };
+    heard = record { word = B.heard.word; is_word = B.heard.is_word; by = B.heard.by; each = each; aligned = aligned; ends = λ o is. absurd (cc) };
   }

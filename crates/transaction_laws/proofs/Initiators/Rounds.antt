@@ -1,11 +1,13 @@
 -- A round that was answered: the next one, or the decision.
 use Rattle.volt_wire.specs.declared.message.Msg.TheVariants as msg
-use Rattle.transaction_laws.proofs.Names.{Aborted, AgentState, Aligned, AllByRecursion, AtHand, Blocks, Books, Bool, CoordStep, Database, Deployment, Done, EndFits, Entry, Fed, Finish, Firm, Fits, Frag, HeardPart, In, Initiates, IsEnded, IsOpen, IsPart, Job, JobOk, Kept, List, LogState, LogsHold, Membership, Msg, None, OfNumber, Option, Outcome, Phase, PhaseOk, Prefix, Round, RunCall, Sends, Settled, Snapshot, Some, Stage, Stood, TakeSnapshot, Transactions, WellFormed, Work, Works, [], all-append, all_parts, and_parts, ap, append-nil, append_assoc, arith, becomes, both-empty, decides, drop, ends_round, eqb-true, false, feeds, first_stage, gathers, goes_on, has_part, in-cases, in_order, inl, inr, is_in, is_none, is_none-none, led_log, length, length-append, list_all-at, list_any-append, nat_lt, next_stage, none-and-some, not, on_frag_done, or-false, or_cases, outcome_of, parts, point_after, point_in, prefix-grows, prefix-refl, prefix-same, refl, same-some, since, stage, stage_behind, subst, sym, term_of, to_all_leaders, true, true≢false, whole, with_work, ℕ, ◌&&◌, ◌++◌, ◌+◌, ◌<◌, ◌==◌, ◌∙◌, ◌∷◌, ◌≡◌, ◌≤◌}
-use Rattle.transaction_laws.proofs.Entries.{first-sound, stage-sound, stage-append, formed-append, calls-opened, frag-last, opened-no-end, part-in, no-round-opened, stage-since, formed-since, since-more}
-use Rattle.transaction_laws.proofs.Kept.{InitiatorGoes, with_due, part-agreed}
-use Rattle.transaction_laws.proofs.Initiators.Orders.{LaidOut, due_with, sends-goes}
+use Rattle.cluster_model.specs.Replies.{replied_by}
+use Rattle.transaction_laws.proofs.Names.{Aborted, AgentState, AllBefore, CallsOk, Covered, CoversAll, CoversIn, Initiating, IsNew, JobAsked, KnownReply, Knows, MayEnd, OnSome, OutcomeAsked, OutcomeOf, RepliesRise, WorkAsked, call_of, calls_of, in-left, known_of, some-here, Aligned, AllByRecursion, AtHand, Blocks, Books, Bool, CoordStep, Database, Deployment, Done, EndFits, Entry, Fed, Finish, Firm, Fits, Frag, FromLogs, HeardPart, In, Initiates, IsEnded, IsOpen, IsPart, Job, JobOk, Kept, List, LogState, LogsHold, Membership, Msg, None, OfNumber, Option, Outcome, Phase, PhaseOk, Prefix, Round, RunCall, Sends, Settled, Snapshot, Some, Stage, Stood, TakeSnapshot, Transactions, WellFormed, Work, Works, [], all-append, all-mono, all_parts, and_parts, ap, append-nil, append_assoc, arith, becomes, both-empty, decides, drop, ends_round, eqb-true, false, feeds, first_stage, gathers, goes_on, has_part, in-cases, in_order, inl, inr, is_in, is_none, is_none-none, led_log, length, length-append, list_all-at, list_any-append, nat_lt, next_stage, none-and-some, not, on_frag_done, or-false, or_cases, outcome_of, parts, point_after, point_in, prefix-grows, prefix-refl, prefix-same, refl, same-some, since, stage, stage_behind, subst, sym, term_of, to_all_leaders, true, true≢false, whole, with_work, ℕ, ◌&&◌, ◌++◌, ◌+◌, ◌<◌, ◌==◌, ◌∙◌, ◌∷◌, ◌≡◌, ◌≤◌}
+use Rattle.transaction_laws.proofs.Entries.{AtLeastTo, all-decided, calls_of-append, outcome-of, covered-on, decision-covered, decision-keeps, job-fresh, log-since, ok-more, outcome-asked, first-sound, stage-sound, stage-append, formed-append, calls-opened, frag-last, opened-no-end, part-in, no-round-opened, stage-since, formed-since, since-more}
+use Rattle.transaction_laws.proofs.Kept.{InitiatorActs, with_due, part-agreed}
+use Rattle.transaction_laws.proofs.Initiators.Orders.{LaidOut, Once, books-once, due_with, sends-goes}
 use Rattle.transaction_laws.proofs.Initiators.Turns.{goes-still, goes-if}
 use Rattle.transaction_laws.proofs.Initiators.Beginning.{whole-to}
+use Rattle.transaction_laws.proofs.Initiators.Answering.{undecided-logs}
 
 -- ---- a transaction that is open everywhere
 
@@ -30,13 +32,13 @@ module _ (E : Database) (D : Deployment) (now : ℕ) (K : Transactions) (logs : 
 
 -- an end at a point
 end-fits : (s : Stage) (m x : ℕ) (o : Outcome) → point_in (Some o) ≡ Some x → IsOpen s m → s.point ≤ x → EndFits s m o
-end-fits s m x (Kept call point) e k l = (k, omega (arith, l, same-some e))
-end-fits s m x (Aborted call point) e k l = (k, omega (arith, l, same-some e))
+end-fits s m x (Kept call client point reply) e k l = (k, omega (arith, l, same-some e))
+end-fits s m x (Aborted call client point reply) e k l = (k, omega (arith, l, same-some e))
 end-fits s m x o e k l = absurd (none-and-some refl e)
 
 end-point : (now x : ℕ) (o : Outcome) → point_in (Some o) ≡ Some x → point_after now o ≡ x
-end-point now x (Kept call point) e = same-some e
-end-point now x (Aborted call point) e = same-some e
+end-point now x (Kept call client point reply) e = same-some e
+end-point now x (Aborted call client point reply) e = same-some e
 end-point now x o e = absurd (none-and-some refl e)
 
 module _ (E : Database) (D : Deployment) (now : ℕ) (K : Transactions) (logs next : ℕ → List Entry) (round : ℕ) (e : Entry) (k : Aligned E D now K logs)
@@ -152,9 +154,10 @@ frag-fed E S F K now B p round body part opened k = record { none = none.1; ever
     long = ap length (log-is ∙ ap (λ xs. k.stands.prefix ++ e ∷ xs) none.0) ∙ length-append k.stands.prefix (e ∷ []) ∙ k.stands.at
 
 -- the point of a call that is decided
-call-point : (keep : Bool) (call host start : ℕ) (body : List ℕ) (point : ℕ) → point_in (Some (outcome_of keep (RunCall call host start body) point)) ≡ Some point
-call-point true call host start body point = refl
-call-point false call host start body point = refl
+call-point : (keep : Bool) (call client host start : ℕ) (body : List ℕ) (point : ℕ) (reply : List ℕ)
+    → point_in (Some (outcome_of keep (RunCall call client host start body) point reply)) ≡ Some point
+call-point true call client host start body point reply = refl
+call-point false call client host start body point reply = refl
 
 -- Of the job at hand: it isn't decided, and its round is firm everywhere.
 record RoundDone (E : Database) (S : LogState) (F : Firm) (K : Transactions) (v : Work) : Type 0 where
@@ -179,20 +182,26 @@ with-part E S F K now B v p partial body part k stood = (k.0, λ q is. ((k.1 q i
 
 -- `a` is the agent as the turn has it by then: with its start and word.
 module _ (E : Database) (S : LogState) (F : Firm) (K : Transactions) (now stamp n : ℕ) (w : Membership) (lay : LaidOut S) (H : LogsHold S) (B : Books E S F K now) (low : now ≤ stamp)
-    (i : Initiates S n w) (a : AgentState) (word : a.decided ≡ Some w) (heard : K.heard ≡ term_of w) (next : K.number < a.initiating.next) where
+    (i : Initiates S n w) (a : AgentState) (word : a.decided ≡ Some w) (heard : K.heard ≡ term_of w) (next : K.number < a.initiating.next)
+    (past : AllBefore K.submitted stamp) (rise : RepliesRise a.initiating.replies) (covers : CoversAll S K a.initiating.replies)
+    (logs : AllByRecursion (FromLogs S F K.submitted K.heard) a.initiating.replies) where
+  -- the job's call is new, and was submitted
+  abbrev Ready : Job → Type 0
+  Ready job = (known_of job a.initiating.replies ≡ IsNew) × JobAsked K.submitted job
+
   abbrev all : Msg Blocks → Sends
   all m = to_all_leaders S.words.deployment a.decided m
 
   -- the next round goes out
-  module _ (v : Work) (k : RoundDone E S F K v) (body : List ℕ) where
+  module _ (v : Work) (k : RoundDone E S F K v) (ready : Ready v.job) (body : List ℕ) where
     abbrev round_sent : Transactions
-    round_sent = with_due K (due_with S K (λ p. true) (Frag v.transaction (v.round + 1) body))
+    round_sent = with_due K (due_with S K (λ q. nat_lt q (parts S.words.deployment)) (Frag v.transaction (v.round + 1) body))
 
     abbrev fresh_round : Work
     fresh_round = record v { round = v.round + 1; gathered = [] }
 
     round-more : (p : ℕ) → IsPart S p → whole S round_sent K.heard p ≡ whole S K K.heard p ++ Frag K.number (v.round + 1) body ∷ []
-    round-more p part = whole-to S K (λ p. true) (Frag v.transaction (v.round + 1) body) p part refl ∙ ap (λ m. whole S K K.heard p ++ Frag m (v.round + 1) body ∷ []) k.transaction
+    round-more p part = whole-to S K (λ q. nat_lt q (parts S.words.deployment)) (Frag v.transaction (v.round + 1) body) p part part ∙ ap (λ m. whole S K K.heard p ++ Frag m (v.round + 1) body ∷ []) k.transaction
 
     round-aligned : Aligned E S.words.deployment stamp round_sent (whole S round_sent K.heard)
     round-aligned = aligned-round E S.words.deployment now stamp low K (whole S K K.heard) (whole S round_sent K.heard) v.round body B.heard.aligned k.opened round-more round_sent.due
@@ -209,11 +218,37 @@ module _ (E : Database) (S : LogState) (F : Firm) (K : Transactions) (now stamp 
       ),
     )
 
-    round-goes : InitiatorGoes E S F K stamp n w a (goes_on S.words.deployment stamp a v (Round body))
+    round-once : Once E S round_sent
+    round-once = let b = books-once E S F K now B in record {
+      calls = λ p part. subst (CallsOk K.submitted p) (sym (round-more p part)) (ok-more K.submitted p (whole S K K.heard p) (Frag K.number (v.round + 1) body) (b.calls p part) tt (λ n i _. i));
+      ends = λ o is. let e = b.ends o is in record { asked = e.asked; unapplied = e.unapplied; new = e.new };
+    }
+
+    round-covers : CoversAll S round_sent a.initiating.replies
+    round-covers p m o part i = elim (in-cases (Done m o) (whole S K K.heard p) (Frag K.number (v.round + 1) body ∷ []) (subst (In (Done m o)) (round-more p part) i)) [
+      | inl j ↦ covers p m o part j
+      | inr (inl e) ↦ absurd (cc)
+      | inr (inr j) ↦ absurd j
+    ]
+
+    round-goes : InitiatorActs E S F K stamp n w a (goes_on S.words.deployment stamp a v (Round body))
     round-goes = let m = msg.Frag v.transaction (v.round + 1) body in sends-goes E S F K round_sent now stamp n w lay H B low i heard a (with_work a fresh_round) m
-        (Frag v.transaction (v.round + 1) body) (λ p. true) (all m) (ap (λ o. to_all_leaders S.words.deployment o m) word) refl tt refl refl
-        (λ p part y. (k.fed p part).none) round-part round-aligned refl refl refl
+        (Frag v.transaction (v.round + 1) body) (λ q. nat_lt q (parts S.words.deployment)) (all m) (ap (λ o. to_all_leaders S.words.deployment o m) word) refl tt refl refl
+        (λ p part y. (k.fed p part).none) round-part round-aligned round-once refl refl refl refl
         (heard, next, (fresh_round, refl, (k.transaction, λ d is. absurd (none-and-some k.decision is)), subst (AtHand E S F round_sent fresh_round) (sym k.decision) round-at-hand))
+        (record {
+          rise = rise;
+          covers = round-covers;
+          decided = λ x d is decision. absurd (none-and-some k.decision (ap (λ z. z.decision) (same-some is) ∙ decision));
+          fresh = λ x _ is none. ap (λ z. known_of z.job a.initiating.replies) (sym (same-some is)) ∙ ready.0;
+          from = all-mono _ _ (λ r. inl) a.initiating.replies logs;
+          first = λ z. absurd (omega (arith, z, next));
+          outcome = λ x d is decision. absurd (none-and-some k.decision (ap (λ z. z.decision) (same-some is) ∙ decision));
+        })
+
+  -- with a job that is decided
+  abbrev decided_with : Work → Outcome → Initiating
+  decided_with v o = record a.initiating { phase = Works; work = Some (record v { decision = Some o }); replies = replied_by o a.initiating.replies }
 
   -- or the decision
   module _ (v : Work) (k : RoundDone E S F K v) (o : Outcome) (point : point_in (Some o) ≡ Some stamp) where
@@ -222,10 +257,10 @@ module _ (E : Database) (S : LogState) (F : Firm) (K : Transactions) (now stamp 
     led p = led_log (S.logs.leadership p K.heard)
 
     abbrev end_sent : Transactions
-    end_sent = record K { agreed = Some o; decided = led; due = due_with S K (λ p. true) (Done v.transaction o) }
+    end_sent = record K { agreed = Some o; decided = led; due = due_with S K (λ q. nat_lt q (parts S.words.deployment)) (Done v.transaction o) }
 
     end-more : (p : ℕ) → IsPart S p → whole S end_sent K.heard p ≡ whole S K K.heard p ++ Done K.number o ∷ []
-    end-more p part = whole-to S K (λ p. true) (Done v.transaction o) p part refl ∙ ap (λ m. whole S K K.heard p ++ Done m o ∷ []) k.transaction
+    end-more p part = whole-to S K (λ q. nat_lt q (parts S.words.deployment)) (Done v.transaction o) p part part ∙ ap (λ m. whole S K K.heard p ++ Done m o ∷ []) k.transaction
 
     end-aligned : Aligned E S.words.deployment stamp end_sent (whole S end_sent K.heard)
     end-aligned = aligned-end E S.words.deployment now stamp low K (whole S K K.heard) (whole S end_sent K.heard) v.round o B.heard.aligned k.opened end-more point led
@@ -242,81 +277,134 @@ module _ (E : Database) (S : LogState) (F : Firm) (K : Transactions) (now stamp 
       λ has. absurd (true≢false (sym has ∙ ap (is_in p) k.finished)),
     )
 
-  decision-goes : (v : Work) → RoundDone E S F K v → (keep : Bool) (reply : List ℕ) → point_in (Some (outcome_of keep v.job stamp)) ≡ Some stamp
-      → InitiatorGoes E S F K stamp n w a (decides S.words.deployment stamp a v keep reply)
-  decision-goes v k keep reply point =
-      let o = outcome_of keep v.job stamp in
+    -- the call wasn't applied anywhere
+    module _ (asked : OutcomeAsked K.submitted o) (fresh : (p : ℕ) → IsPart S p → (n : ℕ) → In n (call_of (Done K.number o)) → In n (calls_of (whole S K K.heard p)) → ⊥) where
+      end-once : Once E S end_sent
+      end-once = record {
+        calls = λ p part. subst (CallsOk K.submitted p) (sym (end-more p part))
+            (ok-more K.submitted p (whole S K K.heard p) (Done K.number o) ((books-once E S F K now B).calls p part) asked (fresh p part));
+        ends = λ q is. subst (MayEnd E S end_sent) (same-some is) (record {
+          asked = asked;
+          unapplied = λ n i p part j. fresh p part n i (subst (λ xs. In n (calls_of xs)) (sym (log-since E S.words.deployment now K (whole S K K.heard) B.heard.aligned p part))
+              (subst (In n) (sym (calls_of-append (K.closed p) (since K (whole S K K.heard) p))) (in-left n (calls_of (K.closed p)) (calls_of (since K (whole S K K.heard) p)) j)));
+          new = new-number E S.words.deployment now K (whole S K K.heard) v.round B.heard.aligned k.opened;
+        });
+      }
+
+      -- the own decision is the last reply to its client
+      end-knows : OutcomeOf v.job o → Knows S F end_sent (decided_with v o)
+      end-knows of = record {
+        rise = more.0;
+        covers = λ p m q part i. elim (in-cases (Done m q) (whole S K K.heard p) (Done K.number o ∷ []) (subst (In (Done m q)) (end-more p part) i)) [
+          | inl j ↦ covered-on a.initiating.replies (replied_by o a.initiating.replies) more.1 q (covers p m q part j)
+          | inr (inl e) ↦ let same : o ≡ q = cc in subst (Covered (replied_by o a.initiating.replies)) same own
+          | inr (inr j) ↦ absurd j
+        ];
+        decided = λ x q is decision. subst (Covered (replied_by o a.initiating.replies)) (same-some (ap (λ z. z.decision) (same-some is) ∙ decision)) own;
+        fresh = λ x _ is none. absurd (none-and-some none (ap (λ z. z.decision) (sym (same-some is))));
+        from = all-decided (KnownReply S F K.submitted K.heard (Some (record v { decision = Some o }))) o (λ r answers. inr (record v { decision = Some o }, o, refl, refl, answers)) a.initiating.replies
+            (all-mono _ _ (λ r. inl) a.initiating.replies logs);
+        first = λ z. absurd (omega (arith, z, next));
+        outcome = λ x d is decision. subst (λ z. OutcomeOf z d) (ap (λ z. z.job) (same-some is)) (subst (OutcomeOf v.job) (same-some (ap (λ z. z.decision) (same-some is) ∙ decision)) of);
+      }
+        where
+          more : RepliesRise (replied_by o a.initiating.replies) × ((c n : ℕ) → AtLeastTo a.initiating.replies c n → AtLeastTo (replied_by o a.initiating.replies) c n)
+          more = decision-keeps o a.initiating.replies rise
+
+          own : Covered (replied_by o a.initiating.replies) o
+          own = decision-covered K.submitted stamp past o asked a.initiating.replies rise
+
+  decision-goes : (v : Work) → RoundDone E S F K v → Ready v.job → (keep : Bool) (reply : List ℕ) → point_in (Some (outcome_of keep v.job stamp reply)) ≡ Some stamp
+      → InitiatorActs E S F K stamp n w a (decides S.words.deployment stamp a v keep reply)
+  decision-goes v k ready keep reply point =
+      let o = outcome_of keep v.job stamp reply in
       let m = msg.Done v.transaction o in
+      let asked : OutcomeAsked K.submitted o = outcome-asked K.submitted stamp past keep v.job reply ready.1 in
+      let fresh : (p : ℕ) → IsPart S p → (n : ℕ) → In n (call_of (Done K.number o)) → In n (calls_of (whole S K K.heard p)) → ⊥ = λ p part n.
+      job-fresh K.submitted p (whole S K K.heard p) ((books-once E S F K now B).calls p part) a.initiating.replies (λ i q j. covers p i q part j) v.job ready.0 ready.1 keep stamp reply K.number n in
       sends-goes E S F K (end_sent v k o point) now stamp n w lay H B low i heard a (decides S.words.deployment stamp a v keep reply).state m
-      (Done v.transaction o) (λ p. true) (all m) (ap (λ d. to_all_leaders S.words.deployment d m) word) refl tt refl refl
-      (λ p part y. (k.fed p part).none) (end-part v k o point) (end-aligned v k o point) refl refl refl
-      (heard, next, (_, refl, (k.transaction, λ d is. ap (λ x. Some x.outcome) (same-some is)), end-at-hand v k o point))
+      (Done v.transaction o) (λ q. nat_lt q (parts S.words.deployment)) (all m) (ap (λ d. to_all_leaders S.words.deployment d m) word) refl tt refl refl
+      (λ p part y. (k.fed p part).none) (end-part v k o point) (end-aligned v k o point) (end-once v k o point asked fresh) refl refl refl refl
+      (heard, next, (_, refl, (k.transaction, λ q is. is), end-at-hand v k o point)) (end-knows v k o point asked fresh (outcome-of keep v.job stamp reply))
 
   -- what the call asks for next
-  goes_on-goes : (v : Work) → RoundDone E S F K v → ((keep : Bool) → point_in (Some (outcome_of keep v.job stamp)) ≡ Some stamp) → (step : CoordStep)
-      → InitiatorGoes E S F K stamp n w a (goes_on S.words.deployment stamp a v step)
-  goes_on-goes v k point (Round body) = round-goes v k body
-  goes_on-goes v k point (Finish keep reply) = decision-goes v k keep reply (point keep)
+  goes_on-goes : (v : Work) → RoundDone E S F K v → Ready v.job → ((keep : Bool) (reply : List ℕ) → point_in (Some (outcome_of keep v.job stamp reply)) ≡ Some stamp) → (step : CoordStep)
+      → InitiatorActs E S F K stamp n w a (goes_on S.words.deployment stamp a v step)
+  goes_on-goes v k ready point (Round body) = round-goes v k ready body
+  goes_on-goes v k ready point (Finish keep reply) = decision-goes v k ready keep reply (point keep reply)
 
-  feeds-goes : (v : Work) → RoundDone E S F K v → ((keep : Bool) → point_in (Some (outcome_of keep v.job stamp)) ≡ Some stamp) → (body : List ℕ) (step : CoordStep)
-      → InitiatorGoes E S F K stamp n w a (feeds E S.words.deployment stamp a v body step)
-  feeds-goes v k point body (Finish keep reply) = decision-goes v k keep reply (point keep)
-  feeds-goes v k point body (Round asked) =
+  feeds-goes : (v : Work) → RoundDone E S F K v → Ready v.job → ((keep : Bool) (reply : List ℕ) → point_in (Some (outcome_of keep v.job stamp reply)) ≡ Some stamp) → (body : List ℕ) (step : CoordStep)
+      → InitiatorActs E S F K stamp n w a (feeds E S.words.deployment stamp a v body step)
+  feeds-goes v k ready point body (Finish keep reply) = decision-goes v k ready keep reply (point keep reply)
+  feeds-goes v k ready point body (Round asked) =
       let fed = v.fed ++ in_order S.words.deployment v.gathered ∷ [] in
-      goes_on-goes (record v { fed = fed }) (record { transaction = k.transaction; decision = k.decision; finished = k.finished; opened = k.opened; fed = k.fed }) point (E.asks body fed)
+      goes_on-goes (record v { fed = fed }) (record { transaction = k.transaction; decision = k.decision; finished = k.finished; opened = k.opened; fed = k.fed }) ready point (E.asks body fed)
 
   -- where all that holds of the agent's phase, holds as it is
-  module _ (phase : PhaseOk E S F K (term_of w) a a.initiating.phase) where
-    stays : InitiatorGoes E S F K stamp n w a (becomes a)
-    stays = goes-still E S F K stamp n w a now a B low refl refl refl phase
+  module _ (phase : PhaseOk E S F K (term_of w) a a.initiating.phase) (knows : Knows S F K a.initiating) where
+    stays : InitiatorActs E S F K stamp n w a (becomes a)
+    stays = goes-still E S F K stamp n w a now a B low refl refl refl phase knows
 
-    ends_round-goes : (v : Work) → RoundDone E S F K v → (job : Job) → v.job ≡ job → InitiatorGoes E S F K stamp n w a (ends_round E S.words.deployment stamp a v job)
-    ends_round-goes v k (RunCall call host start body) is = feeds-goes v k
-        (λ keep. ap (λ job. point_in (Some (outcome_of keep job stamp))) is ∙ call-point keep call host start body stamp) body (E.asks body v.fed)
-    ends_round-goes v k TakeSnapshot is = stays
+    ends_round-goes : (v : Work) → RoundDone E S F K v → Ready v.job → (job : Job) → v.job ≡ job → InitiatorActs E S F K stamp n w a (ends_round E S.words.deployment stamp a v job)
+    ends_round-goes v k ready (RunCall call client host start body) is = feeds-goes v k ready
+        (λ keep reply. ap (λ job. point_in (Some (outcome_of keep job stamp reply))) is ∙ call-point keep call client host start body stamp reply) body (E.asks body v.fed)
+    ends_round-goes v k ready TakeSnapshot is = stays
 
     -- one part more
-    gathers-goes : (v : Work) → v.transaction ≡ K.number → v.decision ≡ None → AtHand E S F K v None → InitiatorGoes E S F K stamp n w a (gathers E S.words.deployment stamp a v)
-    gathers-goes v m none k = goes-if E S F K stamp n w a _ _ _
+    gathers-goes : (v : Work) → v.transaction ≡ K.number → v.decision ≡ None → AtHand E S F K v None → Ready v.job → InitiatorActs E S F K stamp n w a (gathers E S.words.deployment stamp a v)
+    gathers-goes v m none k ready = goes-if E S F K stamp n w a _ _ _
         (λ all. ends_round-goes v (record {
           transaction = m;
           decision = none;
           finished = k.0;
           opened = λ p part. (k.1 p part).0;
           fed = λ p part. (k.1 p part).1 (list_all-at (has_part v.gathered) (all_parts S.words.deployment) p all (part-in S.words.deployment p part));
-        }) v.job refl)
+        }) ready v.job refl)
         (λ some. goes-still E S F K stamp n w a now (with_work a v) B low refl refl refl
-        (heard, next, (v, refl, (m, λ d is. absurd (none-and-some none is)), subst (AtHand E S F K v) (sym none) k)))
+        (heard, next, (v, refl, (m, λ d is. absurd (none-and-some none is)), subst (AtHand E S F K v) (sym none) k))
+        (record {
+          rise = rise;
+          covers = covers;
+          decided = λ x d is decision. absurd (none-and-some none (ap (λ z. z.decision) (same-some is) ∙ decision));
+          fresh = λ x _ is _. ap (λ z. known_of z.job a.initiating.replies) (sym (same-some is)) ∙ ready.0;
+          from = all-mono _ _ (λ r. inl) a.initiating.replies logs;
+          first = λ z. absurd (omega (arith, z, next));
+          outcome = λ x d is decision. absurd (none-and-some none (ap (λ z. z.decision) (same-some is) ∙ decision));
+        }))
 
 -- FragDone changes nothing but the job at hand.
 pub frag_done-goes : (E : Database) (S : LogState) (F : Firm) (K : Transactions) (now stamp n : ℕ) (w : Membership) → LaidOut S → LogsHold S → Books E S F K now → now ≤ stamp → Initiates S n w
     → (a : AgentState) → a.start ≡ (S.words.agents n).start → a.decided ≡ Some w → PhaseOk E S F K (term_of w) a a.initiating.phase
+    → AllBefore K.submitted stamp → Knows S F K a.initiating → OnSome (WorkAsked K.submitted) a.initiating.work
     → (p m round : ℕ) (partial body : List ℕ) → IsPart S p → Stood S F p (term_of w) (Frag m round body)
-    → InitiatorGoes E S F K stamp n w a (on_frag_done E S.words.deployment stamp a a.initiating.phase a.initiating.work p m round partial)
-frag_done-goes E S F K now stamp n w lay H B low i a start word ok p m round partial body part stood = go a.initiating.phase a.initiating.work refl refl ok
+    → InitiatorActs E S F K stamp n w a (on_frag_done E S.words.deployment stamp a a.initiating.phase a.initiating.work p m round partial)
+frag_done-goes E S F K now stamp n w lay H B low i a start word ok past knows asked p m round partial body part stood = go a.initiating.phase a.initiating.work refl refl ok
   where
-    stay : InitiatorGoes E S F K stamp n w a (becomes a)
-    stay = goes-still E S F K stamp n w a now a B low refl refl refl ok
+    stay : InitiatorActs E S F K stamp n w a (becomes a)
+    stay = goes-still E S F K stamp n w a now a B low refl refl refl ok knows
 
-    one : (v : Work) → K.heard ≡ term_of w → K.number < a.initiating.next → JobOk K (Some v) → AtHand E S F K v v.decision
-        → InitiatorGoes E S F K stamp n w a (on_frag_done E S.words.deployment stamp a Works (Some v) p m round partial)
-    one v heard next job k = goes-if E S F K stamp n w a _ _ _ part-came (λ q. stay)
+    one : (v : Work) → a.initiating.phase ≡ Works → a.initiating.work ≡ Some v → K.heard ≡ term_of w → K.number < a.initiating.next → JobOk K (Some v) → AtHand E S F K v v.decision
+        → InitiatorActs E S F K stamp n w a (on_frag_done E S.words.deployment stamp a Works (Some v) p m round partial)
+    one v phase work heard next job k = goes-if E S F K stamp n w a _ _ _ part-came (λ q. stay)
       where
         stood-here : v.transaction ≡ m → v.round ≡ round → Stood S F p K.heard (Frag K.number v.round body)
         stood-here e f = subst (λ t. Stood S F p t (Frag K.number v.round body)) (sym heard) (rw (f, sym job.0 ∙ e) stood)
 
         part-came : (v.transaction == m && v.round == round && is_none v.decision && not (has_part v.gathered p)) ≡ true
-            → InitiatorGoes E S F K stamp n w a (gathers E S.words.deployment stamp a (record v { gathered = v.gathered ++ (p, partial) ∷ [] }))
+            → InitiatorActs E S F K stamp n w a (gathers E S.words.deployment stamp a (record v { gathered = v.gathered ++ (p, partial) ∷ [] }))
         part-came q =
             let (rest, fresh) = and_parts (v.transaction == m && v.round == round && is_none v.decision) (not (has_part v.gathered p)) q in
             let (same, undecided) = and_parts (v.transaction == m && v.round == round) (is_none v.decision) rest in
             let (number, at) = and_parts (v.transaction == m) (v.round == round) same in
-            gathers-goes E S F K now stamp n w lay H B low i a word heard next ok (record v { gathered = v.gathered ++ (p, partial) ∷ [] }) job.0 (is_none-none v.decision undecided)
+            gathers-goes E S F K now stamp n w lay H B low i a word heard next past knows.rise (subst (CoversIn S K a.initiating.replies) phase knows.covers)
+            (undecided-logs S F K.submitted K.heard a.initiating.work (λ y d at decision. none-and-some (is_none-none v.decision undecided) (ap (λ z. z.decision) (same-some (sym work ∙ at)) ∙ decision)) a.initiating.replies knows.from)
+            ok knows (record v { gathered = v.gathered ++ (p, partial) ∷ [] }) job.0 (is_none-none v.decision undecided)
             (with-part E S F K now B v p partial body part (subst (AtHand E S F K v) (is_none-none v.decision undecided) k) (stood-here (eqb-true v.transaction m number) (eqb-true v.round round at)))
+            (knows.fresh v phase work (is_none-none v.decision undecided), some-here (WorkAsked K.submitted) a.initiating.work v work asked)
 
     go : (phase : Phase) (work : Option Work) → a.initiating.phase ≡ phase → a.initiating.work ≡ work → PhaseOk E S F K (term_of w) a phase
-        → InitiatorGoes E S F K stamp n w a (on_frag_done E S.words.deployment stamp a phase work p m round partial)
+        → InitiatorActs E S F K stamp n w a (on_frag_done E S.words.deployment stamp a phase work p m round partial)
     go Works (Some v) is at (heard, next, (x, same, job, k)) =
         let e : x ≡ v = same-some (sym same ∙ at) in
-        one v heard next (subst (λ z. JobOk K (Some z)) e job) (subst (λ z. AtHand E S F K z z.decision) e k)
+        one v is at heard next (subst (λ z. JobOk K (Some z)) e job) (subst (λ z. AtHand E S F K z z.decision) e k)
     go x work is at k = stay

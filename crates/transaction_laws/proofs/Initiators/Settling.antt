@@ -1,11 +1,12 @@
 -- An initiator for which all partitions are settled: it ends the job at hand, and begins the next one or is idle.
 use Rattle.volt_wire.specs.declared.message.Msg.TheVariants as msg
-use Rattle.transaction_laws.proofs.Names.{Admission, Agent, AgentState, Books, Bool, Database, Deployment, Done, End, Entry, Firm, Idle, In, Initiates, IsPart, Job, Job_, List, LogState, LogsHold, Membership, None, OnlyCalls, Option, Outcome, PhaseOk, Prefix, Queued, RunCall, Settled, Some, TakeSnapshot, Transactions, Turn, Work, [], admitting, answers, answers_client, ap, arith, becomes, begins, client_of, drop, ends_job, false, first_stage, if◌then◌else◌, in-cases, in-left, inl, inr, is_down_in, length, letter_to, nat_lt, no_work, on_reply, only, parts, prefix-rest, refl, rests, sending, settles, stage, subst, sym, term_of, true, true≢false, whole, with_admitted, works_queue, ℕ, ◌&&◌, ◌++◌, ◌<◌, ◌==◌, ◌∙◌, ◌∷◌, ◌≡◌, ◌≤◌}
-use Rattle.transaction_laws.proofs.Kept.{InitiatorGoes}
-use Rattle.transaction_laws.proofs.Entries.{first-sound, prefix-number, stage-append, calls-opened, whole-led, number-within, calls-no-end, AppliedInAll, even-logs}
+use Rattle.transaction_laws.proofs.Names.{Admission, Agent, AgentState, AllByRecursion, AnswersCall, Books, Bool, CoversAll, CoversIn, Database, Deployment, Done, End, Entry, Firm, FromLogs, Idle, In, Initiates, IsAnswered, IsNew, IsPart, IsPast, Job, JobAsked, JobOk, Known, KnownReply, Knows, LastReply, List, LogState, LogsHold, Membership, None, OnSome, OnlyCalls, Option, Outcome, OutcomeOf, PhaseOk, Prefix, Queued, QueuedAsked, Replied, RepliesRise, RunCall, Settled, Some, Stood, TakeSnapshot, ToRun, Transactions, Turn, Work, WorkAsked, [], admitting, all-mono, answers, answers_client, ap, arith, becomes, begins, client_of, drop, end_of, end_of_reply, ends_job, false, first_stage, if◌then◌else◌, in-cases, in-left, inl, inr, is_down_in, known_of, length, letter_to, nat_lt, no_work, none-and-some, on_reply, only, part, parts, prefix-rest, refl, rests, runs_again, same-some, sending, settles, stage, subst, sym, term_of, true, true≢false, whole, with_admitted, with_queue, works_known, works_queue, ℕ, ◌&&◌, ◌++◌, ◌<◌, ◌==◌, ◌∙◌, ◌∷◌, ◌≡◌, ◌≤◌}
+use Rattle.transaction_laws.proofs.Kept.{InitiatorActs}
+use Rattle.transaction_laws.proofs.Entries.{agreed-stands, answer-point, first-sound, prefix-number, stage-append, calls-opened, whole-led, number-within, calls-no-end, AppliedInAll, even-logs}
 use Rattle.transaction_laws.proofs.Initiators.Orders.{LaidOut}
 use Rattle.transaction_laws.proofs.Initiators.Turns.{Aside, goes-still, goes-from, goes-then}
 use Rattle.transaction_laws.proofs.Initiators.Beginning.{AtRest, begins-goes}
+use Rattle.transaction_laws.proofs.Initiators.Answering.{AnswersJob, answers-tell, closed-stood, job-answered, some-part, undecided-logs}
 use Rattle.transaction_laws.proofs.Initiators.Resting.{OverAt, resting, resting-books}
 
 -- ---- the history where all is settled
@@ -78,6 +79,49 @@ module _ (E : Database) (S : LogState) (F : Firm) (K : Transactions) (now : ℕ)
   settled-rests : AtRest S settled
   settled-rests p part = ((over-is p part).0.none, (over-at p part).calls)
 
+  -- ---- what is answered then
+
+  -- The outcome that is agreed stands in all partitions, and is firm.
+  module _ (o : Outcome) (agreed : K.agreed ≡ Some o) (call : ℕ) (e : End) (answers : AnswersCall o call e) where
+    agreed-everywhere : (p : ℕ) → IsPart S p → In (Done K.number o) (whole S K K.heard p)
+    agreed-everywhere p part = let (x, point) = answer-point o call e answers in
+        agreed-stands E S.words.deployment now K (whole S K K.heard) B.heard.aligned p x o part agreed point ((B.heard.ends o agreed).new p part) (none-open p part)
+
+    agreed-stood : (p : ℕ) → IsPart S p → Stood S F p K.heard (Done K.number o)
+    agreed-stood p part = closed-stood E S F settled now settled-books settled-rests p K.number o part (end-over p K.number o part (agreed-everywhere p part))
+
+    agreed-replied : Replied S.logs S.words.deployment F call e
+    agreed-replied = record { term = K.heard; number = K.number; outcome = o; answers = answers; stands = agreed-stood }
+
+  -- A job that is decided is answered by its outcome,
+  pub decided-answered : (job : Job) (o : Outcome) → K.agreed ≡ Some o → OutcomeOf job o → AnswersJob S F job (end_of o)
+  decided-answered job o agreed of = choice job (end_of o) refl of
+    where
+      choice : (job : Job) (e : Option End) → end_of o ≡ e → OutcomeOf job o → AnswersJob S F job e
+      choice job None is of = tt
+      choice TakeSnapshot (Some e) is of = tt
+      choice (RunCall call client host start body) (Some e) is of = agreed-replied o agreed call e (of e is)
+
+  -- and all that it knows is from logs.
+  pub settled-logs : LaidOut S → (work : Option Work) → JobOk K work → (replies : List LastReply) → AllByRecursion (KnownReply S F K.submitted K.heard work) replies
+      → AllByRecursion (FromLogs S F K.submitted K.heard) replies
+  settled-logs lay work job replies h = all-mono (KnownReply S F K.submitted K.heard work) (FromLogs S F K.submitted K.heard) one replies h
+    where
+      agrees : (work : Option Work) → JobOk K work → (x : Work) (o : Outcome) → work ≡ Some x → x.decision ≡ Some o → K.agreed ≡ Some o
+      agrees None job x o is decision = absurd (none-and-some refl is)
+      agrees (Some y) job x o is decision = job.1 o (ap (λ z. z.decision) (same-some is) ∙ decision)
+
+      one : (r : LastReply) → KnownReply S F K.submitted K.heard work r → FromLogs S F K.submitted K.heard r
+      one r (inl logs) = logs
+      one r (inr (x, o, is, decision, own)) = inr (record {
+        part = part S 0;
+        is_part = some-part S lay;
+        number = K.number;
+        outcome = o;
+        answers = own;
+        stood = agreed-stood o (agrees work job x o is decision) r.call (end_of_reply r.reply) own (part S 0) (some-part S lay);
+      })
+
 -- ---- parts of a turn that are none of the initiator's
 
 admitting-initiating : (a : AgentState) (own decided : Option Membership) (start host term : ℕ) → (b : Option Membership) × (admitting a own decided start host term ≡ record a { own = b })
@@ -107,7 +151,7 @@ aside-reply D a call e =
 aside-answers : (D : Deployment) (n : ℕ) (a : AgentState) (job : Job) (e : Option End) → Aside a (answers D n a job e)
 aside-answers D n a job None = aside-still a
 aside-answers D n a TakeSnapshot (Some e) = aside-still a
-aside-answers D n a (RunCall call host start body) (Some e) =
+aside-answers D n a (RunCall call client host start body) (Some e) =
     let reply = sending a (only (Agent host) (letter_to start (msg.MpReply call e))) in
     aside-if a (host == n && start == a.start) (on_reply D a call e) reply (aside-reply D a call e)
     (record { start = refl; decided = refl; waiting = refl; initiating = refl; sends = λ c. refl })
@@ -116,58 +160,105 @@ aside-answers D n a (RunCall call host start body) (Some e) =
 
 -- It is idle, and works what waits in its queue.
 pub works_queue-goes : (E : Database) (S : LogState) (F : Firm) (K : Transactions) (now stamp n : ℕ) (w : Membership) → LaidOut S → LogsHold S → Books E S F K now → now ≤ stamp → Initiates S n w
-    → (a : AgentState) → a.start ≡ (S.words.agents n).start → a.decided ≡ Some w → a.initiating.phase ≡ Idle → PhaseOk E S F K (term_of w) a Idle
-    → (queue : List Queued) → InitiatorGoes E S F K stamp n w a (works_queue E S.words.deployment a queue)
-works_queue-goes E S F K now stamp n w lay H B l i a start word phase k [] =
+    → (a : AgentState) → a.start ≡ (S.words.agents n).start → a.decided ≡ Some w → a.initiating.phase ≡ Idle → PhaseOk E S F K (term_of w) a Idle → Knows S F K a.initiating
+    → (queue : List Queued) → AllByRecursion (QueuedAsked K.submitted) queue
+    → InitiatorActs E S F K stamp n w a (works_queue E S.words.deployment n a queue)
+works_queue-goes E S F K now stamp n w lay H B l i a start word phase k knows [] asked =
     goes-still E S F K stamp n w a now (record a { initiating = record a.initiating { queue = [] } }) B l refl refl refl
     (subst (λ q. PhaseOk E S F K (term_of w) (record a { initiating = record a.initiating { queue = [] } }) q) (sym phase) k)
-works_queue-goes E S F K now stamp n w lay H B l i a start word phase k (Job_ job ∷ later) =
-    let b = record a { initiating = record a.initiating { queue = later } } in
-    goes-from E S F K stamp n w a K b (begins E S.words.deployment b job) refl (omega arith) refl refl refl
-    (begins-goes E S F K now stamp n w lay H B l i b word k.0 k.2 k.3 job)
-works_queue-goes E S F K now stamp n w lay H B l i a start word phase k (Admission from host term ∷ later) =
+    (record { rise = knows.rise; covers = knows.covers; decided = knows.decided; fresh = knows.fresh; from = knows.from; first = knows.first; outcome = knows.outcome })
+works_queue-goes E S F K now stamp n w lay H B l i a start word phase k knows (ToRun job ∷ later) asked =
+    by_known (known_of job a.initiating.replies) refl
+    (λ b s d p o x. works_queue-goes E S F K now stamp n w lay H B l i b s d p o x later asked.1)
+  where
+    -- nothing is at hand
+    logs : AllByRecursion (FromLogs S F K.submitted K.heard) a.initiating.replies
+    logs = undecided-logs S F K.submitted K.heard a.initiating.work (λ x o is decision. none-and-some k.1 is) a.initiating.replies knows.from
+
+    by_known : (known : Known) → known_of job a.initiating.replies ≡ known
+        → ((b : AgentState) → b.start ≡ (S.words.agents n).start → b.decided ≡ Some w → b.initiating.phase ≡ Idle → PhaseOk E S F K (term_of w) b Idle → Knows S F K b.initiating
+        → InitiatorActs E S F K stamp n w b (works_queue E S.words.deployment n b later))
+        → InitiatorActs E S F K stamp n w a (works_known E S.words.deployment n a job later known (λ b. works_queue E S.words.deployment n b later))
+    by_known IsNew new goes_on =
+        let b = with_queue a later in
+        goes-from E S F K stamp n w a K b (begins E S.words.deployment b job) refl refl (omega arith) refl refl refl
+        (begins-goes E S F K now stamp n w lay H B l i b word k.0 k.2 k.3 job knows.rise (subst (CoversIn S K a.initiating.replies) phase knows.covers) logs new)
+    by_known (IsAnswered e) answered goes_on =
+        let t = answers S.words.deployment n a job (Some e) in
+        let r = aside-answers S.words.deployment n a job (Some e) in
+        goes-then E S F K stamp n w a t (λ b. works_queue E S.words.deployment n b later) r
+        (answers-tell S F S.words.deployment n a job (Some e) (job-answered E S F K now B k.3 a.initiating.replies logs job asked.0 e answered)) (goes_on t.state (r.start ∙ start) (r.decided ∙ word)
+        (ap (λ x. x.phase) r.initiating ∙ phase)
+        (k.0, ap (λ x. x.work) r.initiating ∙ k.1, subst (λ x. K.number < x.next) (sym r.initiating) k.2, k.3)
+        (subst (Knows S F K) (sym r.initiating) knows))
+    by_known IsPast past goes_on = goes_on a start word phase k knows
+works_queue-goes E S F K now stamp n w lay H B l i a start word phase k knows (Admission from host term ∷ later) asked =
     let (own, is) = admitting-initiating a a.own a.decided from host term in
     let b = record a { own = own } in
-    subst (λ x. InitiatorGoes E S F K stamp n w a (works_queue E S.words.deployment x later)) (sym is)
-    (goes-from E S F K stamp n w a K b (works_queue E S.words.deployment b later) refl (omega arith) refl refl refl
-    (works_queue-goes E S F K now stamp n w lay H B l i b start word phase k later))
+    subst (λ x. InitiatorActs E S F K stamp n w a (works_queue E S.words.deployment n x later)) (sym is)
+    (goes-from E S F K stamp n w a K b (works_queue E S.words.deployment n b later) refl refl (omega arith) refl refl refl
+    (works_queue-goes E S F K now stamp n w lay H B l i b start word phase k knows later asked.1))
 
 -- Where all is settled and nothing is at hand.
 module _ (E : Database) (S : LogState) (F : Firm) (K : Transactions) (now stamp n : ℕ) (w : Membership) (lay : LaidOut S) (H : LogsHold S) (B : Books E S F K now) (l : now ≤ stamp)
     (i : Initiates S n w) (a : AgentState) (start : a.start ≡ (S.words.agents n).start) (word : a.decided ≡ Some w) (heard : K.heard ≡ term_of w) (next : K.number < a.initiating.next)
-    (all : (p : ℕ) → IsPart S p → Settled E S F K p) where
-  rests-goes : InitiatorGoes E S F K stamp n w a (rests E S.words.deployment a)
+    (all : (p : ℕ) → IsPart S p → Settled E S F K p) (rise : RepliesRise a.initiating.replies) (covers : CoversAll S K a.initiating.replies)
+    (logs : AllByRecursion (FromLogs S F K.submitted K.heard) a.initiating.replies) (queue : AllByRecursion (QueuedAsked K.submitted) a.initiating.queue) where
+  rests-goes : InitiatorActs E S F K stamp n w a (rests E S.words.deployment n a)
   rests-goes =
-      goes-from E S F K stamp n w a (settled E S F K now B all) (no_work a) (rests E S.words.deployment a) refl (omega arith) refl refl refl
+      goes-from E S F K stamp n w a (settled E S F K now B all) (no_work a) (rests E S.words.deployment n a) refl refl (omega arith) refl refl refl
       (works_queue-goes E S F (settled E S F K now B all) now stamp n w lay H (settled-books E S F K now B all) l i (no_work a) start word refl
-      (heard, refl, next, settled-rests E S F K now B all) a.initiating.queue)
+      (heard, refl, next, settled-rests E S F K now B all)
+      (record {
+        rise = rise;
+        covers = covers;
+        decided = λ x d is decision. absurd (none-and-some refl is);
+        fresh = λ x idle is none. absurd (none-and-some refl is);
+        from = all-mono _ _ (λ r. inl) a.initiating.replies logs;
+        first = λ z. absurd (omega (arith, z, next));
+        outcome = λ x d is decision. absurd (none-and-some refl is);
+      }) a.initiating.queue queue)
 
   -- a job begins, anew or the first time
-  begins-settled : (job : Job) → InitiatorGoes E S F K stamp n w a (begins E S.words.deployment a job)
-  begins-settled job =
-      goes-from E S F K stamp n w a (settled E S F K now B all) a (begins E S.words.deployment a job) refl (omega arith) refl refl refl
-      (begins-goes E S F (settled E S F K now B all) now stamp n w lay H (settled-books E S F K now B all) l i a word heard next (settled-rests E S F K now B all) job)
+  begins-settled : (job : Job) → known_of job a.initiating.replies ≡ IsNew → InitiatorActs E S F K stamp n w a (begins E S.words.deployment a job)
+  begins-settled job new =
+      goes-from E S F K stamp n w a (settled E S F K now B all) a (begins E S.words.deployment a job) refl refl (omega arith) refl refl refl
+      (begins-goes E S F (settled E S F K now B all) now stamp n w lay H (settled-books E S F K now B all) l i a word heard next (settled-rests E S F K now B all) job rise covers logs new)
 
 -- `a` is the agent as the turn has it by then: with its start and word.
 module _ (E : Database) (S : LogState) (F : Firm) (K : Transactions) (now stamp n : ℕ) (w : Membership) (lay : LaidOut S) (H : LogsHold S) (B : Books E S F K now) (l : now ≤ stamp)
     (i : Initiates S n w) (a : AgentState) (start : a.start ≡ (S.words.agents n).start) (word : a.decided ≡ Some w) (heard : K.heard ≡ term_of w) (next : K.number < a.initiating.next)
-    (all : (p : ℕ) → IsPart S p → Settled E S F K p) where
-  pub ends_job-goes : (job : Job) (e : Option End) → InitiatorGoes E S F K stamp n w a (ends_job E S.words.deployment n a job e)
-  ends_job-goes job e =
+    (all : (p : ℕ) → IsPart S p → Settled E S F K p) (rise : RepliesRise a.initiating.replies) (covers : CoversAll S K a.initiating.replies)
+    (logs : AllByRecursion (FromLogs S F K.submitted K.heard) a.initiating.replies) (queue : AllByRecursion (QueuedAsked K.submitted) a.initiating.queue) where
+  pub ends_job-goes : (job : Job) (e : Option End) → AnswersJob S F job e → InitiatorActs E S F K stamp n w a (ends_job E S.words.deployment n a job e)
+  ends_job-goes job e answered =
       let t = answers S.words.deployment n a job e in
       let k = aside-answers S.words.deployment n a job e in
-      goes-then E S F K stamp n w a t (rests E S.words.deployment) k
-      (rests-goes E S F K now stamp n w lay H B l i t.state (k.start ∙ start) (k.decided ∙ word) heard (subst (λ x. K.number < x.next) (sym k.initiating) next) all)
+      goes-then E S F K stamp n w a t (rests E S.words.deployment n) k (answers-tell S F S.words.deployment n a job e answered)
+      (rests-goes E S F K now stamp n w lay H B l i t.state (k.start ∙ start) (k.decided ∙ word) heard (subst (λ x. K.number < x.next) (sym k.initiating) next) all
+      (subst (λ x. RepliesRise x.replies) (sym k.initiating) rise) (subst (λ x. CoversAll S K x.replies) (sym k.initiating) covers)
+      (subst (λ x. AllByRecursion (FromLogs S F K.submitted K.heard) x.replies) (sym k.initiating) logs) (subst (λ x. AllByRecursion (QueuedAsked K.submitted) x.queue) (sym k.initiating) queue))
 
-  pub settles-goes : InitiatorGoes E S F K stamp n w a (settles E S.words.deployment n a a.initiating.work)
-  settles-goes = choice a.initiating.work
+  -- it runs again, unless it was run already
+  again-goes : (job : Job) → JobAsked K.submitted job → (known : Known) → known_of job a.initiating.replies ≡ known → InitiatorActs E S F K stamp n w a (runs_again E S.words.deployment n a job known)
+  again-goes job asked IsNew new = begins-settled E S F K now stamp n w lay H B l i a start word heard next all rise covers logs queue job new
+  again-goes job asked (IsAnswered e) answered =
+      ends_job-goes job (Some e) (job-answered E S F (settled E S F K now B all) now (settled-books E S F K now B all) (settled-rests E S F K now B all) a.initiating.replies logs job asked e answered)
+  again-goes job asked IsPast past = ends_job-goes job None tt
+
+  pub settles-goes : JobOk K a.initiating.work → OnSome (WorkAsked K.submitted) a.initiating.work
+      → ((x : Work) (o : Outcome) → a.initiating.work ≡ Some x → x.decision ≡ Some o → OutcomeOf x.job o)
+      → InitiatorActs E S F K stamp n w a (settles E S.words.deployment n a a.initiating.work)
+  settles-goes ok asked outcome = choice a.initiating.work ok asked outcome
     where
-      choice : (work : Option Work) → InitiatorGoes E S F K stamp n w a (settles E S.words.deployment n a work)
-      choice None = rests-goes E S F K now stamp n w lay H B l i a start word heard next all
-      choice (Some x) = elim x.decision as (λ o. InitiatorGoes E S F K stamp n w a (elim o as (λ _. Turn AgentState) [
-        | None ↦ begins E S.words.deployment a x.job
-        | Some d ↦ ends_job E S.words.deployment n a x.job d.end
-      ])) [
-        | None ↦ begins-settled E S F K now stamp n w lay H B l i a start word heard next all x.job
-        | Some d ↦ ends_job-goes x.job d.end
-      ]
+      choice : (work : Option Work) → JobOk K work → OnSome (WorkAsked K.submitted) work → ((x : Work) (o : Outcome) → work ≡ Some x → x.decision ≡ Some o → OutcomeOf x.job o)
+          → InitiatorActs E S F K stamp n w a (settles E S.words.deployment n a work)
+      choice None ok asked outcome = rests-goes E S F K now stamp n w lay H B l i a start word heard next all rise covers logs queue
+      choice (Some x) ok asked outcome = by_decision x.decision refl
+        where
+          by_decision : (o : Option Outcome) → x.decision ≡ o → InitiatorActs E S F K stamp n w a (elim o as (λ _. Turn AgentState) [
+            | None ↦ runs_again E S.words.deployment n a x.job (known_of x.job a.initiating.replies)
+            | Some o ↦ ends_job E S.words.deployment n a x.job (end_of o)
+          ])
+          by_decision None is = again-goes x.job asked (known_of x.job a.initiating.replies) refl
+          by_decision (Some o) is = ends_job-goes x.job (end_of o) (decided-answered E S F K now B all x.job o (ok.1 o is) (outcome x o refl is))

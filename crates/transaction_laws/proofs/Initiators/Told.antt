@@ -1,6 +1,6 @@
 -- What the leaders of partitions told of a new term: how each stands as it began.
 use Rattle.volt_wire.specs.declared.message.Msg.TheVariants as msg
-use Rattle.transaction_laws.proofs.Names.{Books, Bool, Database, Entry, Everywhere, Firm, Heard, In, IsPart, Leadership, LeadershipFits, List, LogState, LogsHold, None, OnlyCalls, Option, Outcome, Prefix, Settled, Some, StateOk, Transactions, WellFormed, [], all_parts, ap, arith, cases_lt, drop, eqb-true, false, first_stage, greater, greatest_told, has_told, if-false, if◌then◌else◌, inl, inr, last_done, last_told, le_trans, length, list_all, list_all-at, list_any-from, not-both, number_of, open_in, open_told, option_map, prefix-grows, prefix-length, prefix-rest, refl, same-some, stage, stage_behind, standing, sym, true, whole, ℕ, ◌++◌, ◌<◌, ◌==◌, ◌∙◌, ◌∷◌, ◌≡◌, ◌≤◌, ◌⊎◌}
+use Rattle.transaction_laws.proofs.Names.{Books, Bool, Database, Entry, Everywhere, Firm, Heard, In, IsPart, LastReply, Leadership, LeadershipFits, List, LogState, LogsHold, None, OnlyCalls, Option, Outcome, Prefix, Settled, Some, StateOk, Transactions, WellFormed, [], all_parts, ap, arith, cases_lt, drop, eqb-true, false, first_stage, greater, greatest_told, has_told, if-false, if◌then◌else◌, inl, inr, last_done, last_told, le_trans, length, list_all, list_all-at, list_any-from, not-both, number_of, open_in, open_told, option_map, prefix-grows, prefix-length, prefix-rest, refl, same-some, stage, stage_behind, standing, sym, true, whole, ℕ, ◌++◌, ◌<◌, ◌==◌, ◌∙◌, ◌∷◌, ◌≡◌, ◌≤◌, ◌⊎◌}
 use Rattle.transaction_laws.proofs.Entries.{first-sound, stage-sound, stage-append, formed-prefix, calls-opened, calls-number, open_in-stage, last-number, done-append, calls-done, whole-led, part-in}
 use Rattle.transaction_laws.proofs.Kept.{everywhere-prefix}
 
@@ -59,11 +59,12 @@ told-by S told all p part =
 -- ---- how a partition stands
 
 -- It has told that this transaction is open, or what its last end is.
-standing-cases : (now : Option ℕ) (last : Option (ℕ × Outcome)) (m : ℕ) (is_open : Bool) (outcome : Option Outcome) → standing now last ≡ msg.MpState m is_open outcome
+standing-cases : (now : Option ℕ) (last : Option (ℕ × Outcome)) (replies : List LastReply) (m : ℕ) (is_open : Bool) (outcome : Option Outcome)
+    → standing now last replies ≡ msg.MpState m is_open outcome replies
     → ((now ≡ Some m) × (is_open ≡ true)) ⊎ ((now ≡ None) × (is_open ≡ false) × (number_of last ≡ m) × (outcome ≡ option_map (λ x. x.1) last))
-standing-cases (Some n) last m is_open outcome e = inl (cc, cc)
-standing-cases None None m is_open outcome e = inr (refl, cc, cc, cc)
-standing-cases None (Some last) m is_open outcome e = inr (refl, cc, cc, cc)
+standing-cases (Some n) last replies m is_open outcome e = inl (cc, cc)
+standing-cases None None replies m is_open outcome e = inr (refl, cc, cc, cc)
+standing-cases None (Some last) replies m is_open outcome e = inr (refl, cc, cc, cc)
 
 same-last : (last : Option (ℕ × Outcome)) (m : ℕ) → number_of last ≡ m → option_map {U = ℕ × Outcome} (λ o. (m, o)) (option_map (λ x. x.1) last) ≡ last
 same-last None m e = refl
@@ -112,7 +113,7 @@ abbrev pub heard_with : Transactions → ℕ → ℕ → Option Outcome → Tran
 heard_with K t number agreed = record K { heard = t; number = number; agreed = agreed }
 
 module _ (E : Database) (S : LogState) (F : Firm) (K : Transactions) (now : ℕ) (H : LogsHold S) (B : Books E S F K now) (t : ℕ) (up : K.heard < t)
-    (x : Heard) (k : StateOk E S F x.part t x.transaction x.is_open x.outcome) where
+    (x : Heard) (k : StateOk E S F t x) where
   abbrev begun : List Entry
   begun = k.leadership.begun
 
@@ -137,7 +138,7 @@ module _ (E : Database) (S : LogState) (F : Firm) (K : Transactions) (now : ℕ)
   )
 
   stands : (OpenTold E begun x ⊎ OverTold E begun x) × ((stage E x.part begun).number ≡ x.transaction)
-  stands = elim (standing-cases (open_in begun) (last_done E x.part begun) x.transaction x.is_open x.outcome k.told) [
+  stands = elim (standing-cases (open_in begun) (last_done E x.part begun) x.replies x.transaction x.is_open x.outcome k.told) [
     | inl (now, is) ↦
         let r = mapped-some (stage E x.part begun).opened x.transaction (sym (open_in-stage E x.part begun) ∙ now) in
         (inl (is, r), stage-sound (first_stage E x.part) begun (first-sound E x.part) x.transaction r.0 r.1)
@@ -167,7 +168,7 @@ module _ (E : Database) (S : LogState) (F : Firm) (K : Transactions) (x : Heard)
   abbrev told_calls : List Entry
   told_calls = drop (length k.leadership.begun) k.leadership.log
 
-  told-whole : whole S K K.heard x.part ≡ k.leadership.begun ++ told_calls
+  pub told-whole : whole S K K.heard x.part ≡ k.leadership.begun ++ told_calls
   told-whole = whole-led S K x.part K.heard k.leadership k.led k.none ∙ prefix-rest k.leadership.begun k.leadership.log k.grown
 
   stage-is : stage E x.part (whole S K K.heard x.part) ≡ stage_behind (stage E x.part k.leadership.begun) told_calls

@@ -1,9 +1,10 @@
 -- What holds of transactions, holds after an event that only adds to logs.
 use Rattle.volt_wire.specs.declared.message.Msg.TheVariants as msg
-use Rattle.transaction_laws.proofs.Names.{AgentCalls, AgentState, Aligned, AllByRecursion, AnswerOk, AtHand, Books, Bool, Closes, Database, Decision, Deployment, Done, DueOk, Entry, Everywhere, Fed, Firm, Frag, HeardOk, HeardPart, Hears, Idle, In, IsCall, IsEnded, IsPart, Last, Leadership, LeadershipFits, Letter, List, LogState, Logs, LogsHold, Membership, NoRound, None, OfNumber, Off, OnlyCalls, Option, OrderOk, Outcome, Phase, PhaseOk, Prefix, Settled, Site, Some, Stage, StateOk, Stood, ToSiteOk, Transactions, Waiting, WaitingAnswer, WellFormed, Work, Works, [], agrees-begun, all-append, all-at, all-behind, all-first, all-mono, ap, append-nil, append_assoc, arith, base-least, cases_Bool, cases_eq, drop, drop-append-le, drop-append_seam, epoch_base, first_stage, in-cases, in-left, in-right, initiator, initiator-member, inl, inr, known, last-below, last_done, leader, led_log, length, length-take, member-is, nat_lt, none-and-some, not-both, open_in, part, part_of_slot, parts, point_in, prefix-append, prefix-grows, prefix-length, prefix-rest, prefix-take, prefix-trans, prefixes-order, refl, same-some, since, slots, stage, stage_behind, standing, start_of_slot, subst, suc, sym, take, term_in, term_of, true, whole, zero, ℕ, ◌++◌, ◌+◌, ◌<◌, ◌∙◌, ◌∷◌, ◌≡◌, ◌≤◌, ◌⊎◌}
+use Rattle.transaction_laws.proofs.Names.{CallsOk, KnownEnd, KnownReply, CoversAll, CoversIn, Initiating, Knows, LastReply, Submissions, AgentCalls, AgentState, Aligned, AllByRecursion, AnswerOk, AtHand, Books, Closes, Database, Deployment, Done, DueOk, Entry, Everywhere, Fed, Firm, Frag, Heard, HeardOk, HeardPart, Hears, Idle, In, IsCall, IsEnded, IsPart, Last, Leadership, LeadershipFits, Letter, List, LogState, Logs, LogsHold, Membership, NoRound, None, OfNumber, Off, OnlyCalls, Option, OrderOk, Outcome, Phase, PhaseOk, Prefix, Settled, Site, Some, Stage, StateOk, Stood, ToSiteOk, Transactions, Waiting, WaitingAnswer, WellFormed, Work, Works, [], agrees-begun, all-append, all-at, all-behind, all-first, all-mono, ap, append-nil, append_assoc, arith, base-least, cases_Bool, cases_eq, drop, drop-append-le, drop-append_seam, epoch_base, first_stage, heard_of, in-cases, in-left, in-right, initiator, initiator-member, inl, inr, known, last-below, last_done, leader, led_log, length, length-take, member-is, nat_lt, none-and-some, not-both, open_in, part, part_of_slot, parts, point_in, prefix-append, prefix-grows, prefix-length, prefix-rest, prefix-take, prefix-trans, prefixes-order, refl, same-some, since, slots, stage, stage_behind, standing, start_of_slot, subst, suc, sym, take, term_in, term_of, true, whole, zero, ℕ, ◌++◌, ◌+◌, ◌<◌, ◌∙◌, ◌∷◌, ◌≡◌, ◌≤◌, ◌⊎◌}
 use Rattle.transaction_laws.proofs.Kept.Moves.{Onto, BeginsTerm, GoesOnTerm, Moved, with_due, Under, CallsAt}
 use Rattle.transaction_laws.proofs.Entries.Machine.{AtMostOne, formed-append, formed-prefix, prefix-point, calls-only, calls-formed, calls-point, due-formed, due-opened, due-number, due-point, stage-append}
-use Rattle.transaction_laws.proofs.Entries.Since.{call-number, call-round}
+use Rattle.transaction_laws.proofs.Entries.Since.{call-number, call-round, call-no-order}
+use Rattle.transaction_laws.proofs.Entries.Calls.{ok-between, ok-first, ok-prefix}
 use Rattle.transaction_laws.proofs.Entries.Aligned.{under-refl, under-prefix, under-trans, under-calls, aligned-under}
 
 -- ---- what only grows
@@ -24,22 +25,41 @@ stood-on S T F M o p t e k = let h = o.onward.kept p t k.leadership k.led in rec
   everywhere = everywhere-on S T F M o p t k.position k.everywhere;
 }
 
-pub state-on : (E : Database) (S T : LogState) (F M : Firm) → Onto S T F M → (p t m : ℕ) (is_open : Bool) (outcome : Option Outcome) → StateOk E S F p t m is_open outcome
-    → StateOk E T M p t m is_open outcome
-state-on E S T F M o p t m is_open outcome k = let h = o.onward.kept p t k.leadership k.led in record {
-  part = subst (λ D. nat_lt p (parts D) ≡ true) (sym o.deployment) k.part;
+-- what is known of a last reply
+pub end-on : (S T : LogState) (F M : Firm) → Onto S T F M → (t : ℕ) (r : LastReply) → KnownEnd S F t r → KnownEnd T M t r
+end-on S T F M o t r k = record {
+  part = k.part;
+  is_part = subst (λ D. nat_lt k.part (parts D) ≡ true) (sym o.deployment) k.is_part;
+  number = k.number;
+  outcome = k.outcome;
+  answers = k.answers;
+  stood = stood-on S T F M o k.part t (Done k.number k.outcome) k.stood;
+}
+
+pub known-on : (S T : LogState) (F M : Firm) → Onto S T F M → (A : Submissions) (t : ℕ) (work : Option Work) (r : LastReply) → KnownReply S F A t work r → KnownReply T M A t work r
+known-on S T F M o A t work r (inl (inl one)) = inl (inl one)
+known-on S T F M o A t work r (inl (inr k)) = inl (inr (end-on S T F M o t r k))
+known-on S T F M o A t work r (inr own) = inr own
+
+pub state-on : (E : Database) (S T : LogState) (F M : Firm) → Onto S T F M → (t : ℕ) (x : Heard) → StateOk E S F t x → StateOk E T M t x
+state-on E S T F M o t x k = let h = o.onward.kept x.part t k.leadership k.led in record {
+  part = subst (λ D. nat_lt x.part (parts D) ≡ true) (sym o.deployment) k.part;
   leadership = h.0;
   led = h.1;
-  told = ap (λ b. standing (open_in b) (last_done E p b)) h.2 ∙ k.told;
-  everywhere = subst (λ b. Everywhere T M p t (length b)) (sym h.2) (everywhere-on S T F M o p t (length k.leadership.begun) k.everywhere);
-  top = o.tops p t 0 k.top;
+  told = ap (λ b. standing (open_in b) (last_done E x.part b) x.replies) h.2 ∙ k.told;
+  everywhere = subst (λ b. Everywhere T M x.part t (length b)) (sym h.2) (everywhere-on S T F M o x.part t (length k.leadership.begun) k.everywhere);
+  top = o.tops x.part t 0 k.top;
+  log = k.log;
+  behind = subst (λ b. Prefix b k.log) (sym h.2) k.behind;
+  within = prefix-trans k.log k.leadership.log h.0.log k.within h.3;
+  replies_are = k.replies_are;
 }
 
 pub answer-on : (E : Database) (S T : LogState) (F M : Firm) → Onto S T F M → (K L : Transactions) → K.heard ≤ L.heard → (p : ℕ) (l : Letter) → AnswerOk E S F K p l → AnswerOk E T M L p l
 answer-on E S T F M o K L h p l k = elim l.body as (λ m. AnswerOk E S F K p (record l { body = m }) → AnswerOk E T M L p (record l { body = m })) [
   | msg.FragDone m round partial ↦ λ k. (k.0, (k.1.0, stood-on S T F M o p l.term (Frag m round k.1.0) k.1.1))
   | msg.Finished m ↦ λ k. (k.0, (k.1.0, stood-on S T F M o p l.term (Done m k.1.0) k.1.1))
-  | msg.MpState m is_open outcome ↦ λ k. (k.0, λ above. state-on E S T F M o p l.term m is_open outcome (k.1 (omega (arith, h, above))))
+  | msg.MpState m is_open outcome replies ↦ λ k. (k.0, λ above. state-on E S T F M o l.term (heard_of p m is_open outcome replies) (k.1 (omega (arith, h, above))))
   | _ ↦ λ k. tt
 ] k
 
@@ -87,6 +107,19 @@ pub part-agreed : (S : LogState) (F : Firm) (K : Transactions) (number : ℕ) (a
     → ((x : ℕ) → point_in agreed ≡ Some x → Prefix (decided p) h.leadership.log × Everywhere S F p K.heard (length (decided p)))
     → HeardPart S F (record K { number = number; agreed = agreed; decided = decided; due = due }) p
 part-agreed S F K number agreed decided due p h d = record { leadership = h.leadership; led = h.led; inside = h.inside; closed = h.closed; decided = d; top = h.top }
+
+-- What is settled stays so with another history of the last transaction, if nothing is due there still.
+pub settled-with : (E : Database) (S : LogState) (F : Firm) (K L : Transactions) (p : ℕ) → L.heard ≡ K.heard → L.due p K.heard ≡ [] → Settled E S F K p → Settled E S F L p
+settled-with E S F K L p same none s = record {
+  none = rw same none;
+  leadership = s.leadership;
+  led = rw same s.led;
+  prefix = s.prefix;
+  stands = s.stands;
+  calls = s.calls;
+  everywhere = rw same s.everywhere;
+  over = s.over;
+}
 
 -- ---- terms that were led and whose initiator hasn't heard of all
 
@@ -136,7 +169,7 @@ everywhere-prefix S F H p t u g h xs led is l f k =
 -- ---- calls that run between a log and what is due behind it
 
 -- xs is a log with what is due, and ys the same with calls between.
-record Between (E : Database) (p stamp : ℕ) (xs ys : List Entry) : Type 0 where
+record Between (E : Database) (A : Submissions) (p stamp : ℕ) (xs ys : List Entry) : Type 0 where
   log : List Entry
   calls : List Entry
   due : List Entry
@@ -145,8 +178,9 @@ record Between (E : Database) (p stamp : ℕ) (xs ys : List Entry) : Type 0 wher
   at : CallsAt stamp calls
   one : AtMostOne due
   room : (calls ≡ []) ⊎ ((stage E p log).opened ≡ None)
+  once : CallsOk A p log → CallsOk A p (log ++ calls)
 
-module _ (E : Database) (p stamp : ℕ) (xs ys : List Entry) (b : Between E p stamp xs ys) where
+module _ (E : Database) (A : Submissions) (p stamp : ℕ) (xs ys : List Entry) (b : Between E A p stamp xs ys) where
   -- the same is open, with the same number
   between-opened : (stage E p ys).opened ≡ (stage E p xs).opened
   between-opened = ap (λ z. (stage E p z).opened) b.is ∙ due-opened (first_stage E p) b.log b.calls b.due stamp b.at ∙ ap (λ z. (stage E p z).opened) (sym b.was)
@@ -187,6 +221,16 @@ module _ (E : Database) (p stamp : ℕ) (xs ys : List Entry) (b : Between E p st
     ]
   ])
 
+  -- each call stands once, still
+  between-ok : CallsOk A p xs → CallsOk A p ys
+  between-ok h =
+      let k = subst (CallsOk A p) b.was h in
+      subst (CallsOk A p) (sym b.is) (ok-between A p b.log b.calls b.due k (b.once (ok-first A p b.log b.due k)) (calls-only stamp b.calls b.at) (orders b.one))
+    where
+      orders : AtMostOne b.due → AllByRecursion (λ x. IsCall x → ⊥) b.due
+      orders (inl none) = subst (AllByRecursion (λ x. IsCall x → ⊥)) (sym none) tt
+      orders (inr (x, is, order)) = subst (AllByRecursion (λ y. IsCall y → ⊥)) (sym is) (λ c. call-no-order x c order, tt)
+
   between-prefix : (zs : List Entry) → Prefix zs b.log → Prefix zs ys
   between-prefix zs f = subst (Prefix zs) (sym b.is) (prefix-grows zs (b.log ++ b.calls) b.due (prefix-grows zs b.log b.calls f))
 
@@ -210,9 +254,9 @@ due-one S K p t (inl none) = inl none
 due-one S K p t (inr (x, g, is, order, led, l)) = inr (x, is, order)
 
 -- so it is with the log of a leader that took what was due
-abbrev between-goes : (E : Database) (F G : Logs) (due next : List Entry) (stamp p t : ℕ) (k : GoesOnTerm E F G due next stamp p t) → AtMostOne due
-    → Between E p stamp (k.old.log ++ due) (k.new.log ++ next)
-between-goes E F G due next stamp p t k one = record {
+abbrev between-goes : (E : Database) (A : Submissions) (F G : Logs) (due next : List Entry) (stamp p t : ℕ) (k : GoesOnTerm E A F G due next stamp p t) → AtMostOne due
+    → Between E A p stamp (k.old.log ++ due) (k.new.log ++ next)
+between-goes E A F G due next stamp p t k one = record {
   log = k.old.log ++ k.taken;
   calls = k.runs.calls;
   due = next;
@@ -221,12 +265,13 @@ between-goes E F G due next stamp p t k one = record {
   at = k.runs.at;
   one = one-rest due k.taken next k.due_is one;
   room = k.runs.room;
+  once = λ h. subst (CallsOk A p) k.runs.is (k.runs.once h);
 }
 
 -- where nothing was due, only calls were added
-goes-inert : (E : Database) (F G : Logs) (due next : List Entry) (stamp p t : ℕ) (k : GoesOnTerm E F G due next stamp p t) → due ≡ []
+goes-inert : (E : Database) (A : Submissions) (F G : Logs) (due next : List Entry) (stamp p t : ℕ) (k : GoesOnTerm E A F G due next stamp p t) → due ≡ []
     → (next ≡ []) × (k.new.log ≡ k.old.log ++ k.runs.calls) × (k.old.log ++ k.taken ≡ k.old.log)
-goes-inert E F G due next stamp p t k none =
+goes-inert E A F G due next stamp p t k none =
     let r = rest-none k.taken next (sym k.due_is ∙ none) in
     let log = ap (λ z. k.old.log ++ z) r.0 ∙ append-nil k.old.log in
     (r.1, k.runs.is ∙ ap (λ z. z ++ k.runs.calls) log, log)
@@ -244,20 +289,20 @@ keeps-same S T heard same w h a d first some is before = let e = ap (λ f. f h) 
 
 -- All that words and logs hold, where a term begins.
 module _ (E : Database) (S T : LogState) (F M : Firm) (K : Transactions) (now stamp : ℕ) (due : ℕ → ℕ → List Entry) (later : now ≤ stamp) (H : LogsHold S)
-    (J : (p t : ℕ) → BeginsTerm E S.logs T.logs (K.due p t) (due p t) stamp p t → LogsHold T) (o : Onto S T F M)
-    (moved : (p t : ℕ) → IsPart S p → Moved E S.logs T.logs K.due due stamp p t) (B : Books E S F K now) where
+    (J : (p t : ℕ) → BeginsTerm E K.submitted S.logs T.logs (K.due p t) (due p t) stamp p t → LogsHold T) (o : Onto S T F M)
+    (moved : (p t : ℕ) → IsPart S p → Moved E K.submitted S.logs T.logs K.due due stamp p t) (B : Books E S F K now) where
   abbrev L : Transactions
   L = with_due K due
 
   -- what the leader of a term took
   abbrev Went : ℕ → ℕ → Type 0
-  Went p t = GoesOnTerm E S.logs T.logs (K.due p t) (due p t) stamp p t
+  Went p t = GoesOnTerm E K.submitted S.logs T.logs (K.due p t) (due p t) stamp p t
 
   -- a term that was led goes on
   goes-at : (p t : ℕ) (g : Leadership) → IsPart S p → S.logs.leadership p t ≡ Some g → (k : Went p t) × (k.old ≡ g)
   goes-at p t g part led = from (moved p t part)
     where
-      from : Moved E S.logs T.logs K.due due stamp p t → (k : Went p t) × (k.old ≡ g)
+      from : Moved E K.submitted S.logs T.logs K.due due stamp p t → (k : Went p t) × (k.old ≡ g)
       from (inl (same, next)) = (
         record {
           old = g;
@@ -267,7 +312,13 @@ module _ (E : Database) (S T : LogState) (F M : Firm) (K : Transactions) (now st
           begun = refl;
           taken = [];
           due_is = sym next;
-          runs = record { calls = []; is = sym (append-nil g.log) ∙ ap (λ z. z ++ []) (sym (append-nil g.log)); at = tt; room = inl refl };
+          runs = record {
+            calls = [];
+            is = sym (append-nil g.log) ∙ ap (λ z. z ++ []) (sym (append-nil g.log));
+            at = tt;
+            room = inl refl;
+            once = subst (CallsOk K.submitted p) (append-nil g.log);
+          };
         },
         refl,
       )
@@ -308,35 +359,37 @@ module _ (E : Database) (S T : LogState) (F M : Firm) (K : Transactions) (now st
   -- where the term was led before
   fits-led : (p t : ℕ) → IsPart S p → (k : Went p t) → LeadershipFits E T L stamp p t k.new
   fits-led p t part k = record {
-    formed = between-formed E p stamp (k.old.log ++ K.due p t) (k.new.log ++ due p t) b f.formed (omega (arith, f.past, later));
-    past = between-point E p stamp (k.old.log ++ K.due p t) (k.new.log ++ due p t) b f.formed (omega (arith, f.past, later));
+    formed = between-formed E K.submitted p stamp (k.old.log ++ K.due p t) (k.new.log ++ due p t) b f.formed (omega (arith, f.past, later));
+    past = between-point E K.submitted p stamp (k.old.log ++ K.due p t) (k.new.log ++ due p t) b f.formed (omega (arith, f.past, later));
     unheard = λ above.
-        let q = goes-inert E S.logs T.logs (K.due p t) (due p t) stamp p t k (unheard-none p t above) in
+        let q = goes-inert E K.submitted S.logs T.logs (K.due p t) (due p t) stamp p t k (unheard-none p t above) in
         let n = length k.old.begun in
         let e : drop n k.new.log ≡ drop n k.old.log ++ k.runs.calls =
         ap (drop n) q.1 ∙ drop-append-le n k.old.log k.runs.calls (prefix-length k.old.begun k.old.log (H.leaderships p t k.old k.was).grown) in
         subst (λ z. OnlyCalls (drop (length z) k.new.log)) (sym k.begun) (subst OnlyCalls (sym e)
         (all-append IsCall (drop n k.old.log) k.runs.calls (f.unheard above) (calls-only stamp k.runs.calls k.runs.at)));
+    calls = between-ok E K.submitted p stamp (k.old.log ++ K.due p t) (k.new.log ++ due p t) b f.calls;
   }
     where
       f : LeadershipFits E S K now p t k.old
       f = B.leaderships p t k.old part k.was
 
-      b : Between E p stamp (k.old.log ++ K.due p t) (k.new.log ++ due p t)
-      b = between-goes E S.logs T.logs (K.due p t) (due p t) stamp p t k (due-one S K p t (B.due p t))
+      b : Between E K.submitted p stamp (k.old.log ++ K.due p t) (k.new.log ++ due p t)
+      b = between-goes E K.submitted S.logs T.logs (K.due p t) (due p t) stamp p t k (due-one S K p t (B.due p t))
 
   abbrev FitsThen : ℕ → ℕ → Leadership → Type 0
   FitsThen p t g = LeadershipFits E T L stamp p t g
 
   abbrev Starts : ℕ → ℕ → Type 0
-  Starts p t = BeginsTerm E S.logs T.logs (K.due p t) (due p t) stamp p t
+  Starts p t = BeginsTerm E K.submitted S.logs T.logs (K.due p t) (due p t) stamp p t
 
   -- what a new term begins with fits, if the logs of those before do
   begun-fits : (p t : ℕ) (k : Starts p t) → ((v : ℕ) (g : Leadership) → v < t → T.logs.leadership p v ≡ Some g → FitsThen p v g)
-      → WellFormed (first_stage E p) k.leadership.begun × ((stage E p k.leadership.begun).point ≤ stamp)
+      → WellFormed (first_stage E p) k.leadership.begun × ((stage E p k.leadership.begun).point ≤ stamp) × CallsOk K.submitted p k.leadership.begun
   begun-fits p t k earlier = (
     formed-prefix (first_stage E p) k.leadership.begun (b.1.leadership.log ++ due p b.0) whole f.formed,
     omega (arith, prefix-point (first_stage E p) k.leadership.begun (b.1.leadership.log ++ due p b.0) whole f.formed, f.past),
+    ok-prefix K.submitted p k.leadership.begun (b.1.leadership.log ++ due p b.0) whole f.calls,
   )
     where
       N : LogsHold T
@@ -362,14 +415,16 @@ module _ (E : Database) (S T : LogState) (F M : Firm) (K : Transactions) (now st
       whole = prefix-grows k.leadership.begun b.1.leadership.log (due p b.0) b.2
 
   -- and so does its log
-  fits-begun : (p t : ℕ) (k : Starts p t) → WellFormed (first_stage E p) k.leadership.begun → (stage E p k.leadership.begun).point ≤ stamp → FitsThen p t k.leadership
-  fits-begun p t k formed low = record {
+  fits-begun : (p t : ℕ) (k : Starts p t) → WellFormed (first_stage E p) k.leadership.begun → (stage E p k.leadership.begun).point ≤ stamp → CallsOk K.submitted p k.leadership.begun
+      → FitsThen p t k.leadership
+  fits-begun p t k formed low ok = record {
     formed = subst (WellFormed s) (sym log) (formed-append s k.leadership.begun k.runs.calls formed (calls k.runs.room));
     past = subst (λ z. (stage_behind s z).point ≤ stamp) (sym log)
         (subst (λ z. z.point ≤ stamp) (sym (stage-append s k.leadership.begun k.runs.calls))
         (calls-point (stage E p k.leadership.begun) stamp k.runs.calls k.runs.at low));
     unheard = λ above. subst OnlyCalls (sym (ap (drop (length k.leadership.begun)) k.runs.is ∙ drop-append_seam k.leadership.begun k.runs.calls))
         (calls-only stamp k.runs.calls k.runs.at);
+    calls = subst (CallsOk K.submitted p) (sym (ap (λ z. k.leadership.log ++ z) k.after ∙ append-nil k.leadership.log)) (k.runs.once ok);
   }
     where
       s : Stage
@@ -388,11 +443,11 @@ module _ (E : Database) (S T : LogState) (F M : Firm) (K : Transactions) (now st
   fits-up (suc m) p t g part small led = from (λ v h low is. fits-up m p v h part (omega (arith, low, small)) is) (S.logs.leadership p t) refl (moved p t part)
     where
       from : ((v : ℕ) (h : Leadership) → v < t → T.logs.leadership p v ≡ Some h → FitsThen p v h) → (x : Option Leadership) → S.logs.leadership p t ≡ x
-          → Moved E S.logs T.logs K.due due stamp p t → FitsThen p t g
+          → Moved E K.submitted S.logs T.logs K.due due stamp p t → FitsThen p t g
       from earlier (Some h) e x = let k = (goes-at p t h part e).0 in subst (FitsThen p t) (same-some (sym k.is ∙ led)) (fits-led p t part k)
       from earlier None e (inl (same, next)) = absurd (none-and-some e (sym same ∙ led))
       from earlier None e (inr (inr k)) = absurd (none-and-some e k.was)
-      from earlier None e (inr (inl k)) = let f = begun-fits p t k earlier in subst (FitsThen p t) (same-some (sym k.led ∙ led)) (fits-begun p t k f.0 f.1)
+      from earlier None e (inr (inl k)) = let f = begun-fits p t k earlier in subst (FitsThen p t) (same-some (sym k.led ∙ led)) (fits-begun p t k f.0 f.1 f.2)
 
   -- ---- the term that was heard
 
@@ -403,19 +458,19 @@ module _ (E : Database) (S T : LogState) (F M : Firm) (K : Transactions) (now st
   abbrev after : ℕ → List Entry
   after = whole T L K.heard
 
-  heard-between : (p : ℕ) (part : IsPart S p) → (b : Between E p stamp (before p) (after p)) × Prefix (B.heard.each p part).leadership.log b.log
+  heard-between : (p : ℕ) (part : IsPart S p) → (b : Between E K.submitted p stamp (before p) (after p)) × Prefix (B.heard.each p part).leadership.log b.log
   heard-between p part =
       let h = B.heard.each p part in
       let r = goes-at p K.heard h.leadership part h.led in
       let k = r.0 in
-      let b = between-goes E S.logs T.logs (K.due p K.heard) (due p K.heard) stamp p K.heard k (due-one S K p K.heard (B.due p K.heard)) in
+      let b = between-goes E K.submitted S.logs T.logs (K.due p K.heard) (due p K.heard) stamp p K.heard k (due-one S K p K.heard (B.due p K.heard)) in
       let was : before p ≡ k.old.log ++ K.due p K.heard = ap (λ z. led_log z ++ K.due p K.heard) k.was in
       let is : after p ≡ k.new.log ++ due p K.heard = ap (λ z. led_log z ++ due p K.heard) k.is in (
-        record { log = b.log; calls = b.calls; due = b.due; was = was ∙ b.was; is = is ∙ b.is; at = b.at; one = b.one; room = b.room },
+        record { log = b.log; calls = b.calls; due = b.due; was = was ∙ b.was; is = is ∙ b.is; at = b.at; one = b.one; room = b.room; once = b.once },
         subst (λ z. Prefix z.log b.log) r.1 (prefix-append k.old.log k.taken),
       )
 
-  abbrev between : (p : ℕ) → IsPart S p → Between E p stamp (before p) (after p)
+  abbrev between : (p : ℕ) → IsPart S p → Between E K.submitted p stamp (before p) (after p)
   between p part = (heard-between p part).0
 
   -- what its log had when the last transaction was begun
@@ -432,19 +487,19 @@ module _ (E : Database) (S T : LogState) (F M : Firm) (K : Transactions) (now st
   -- The logs stay aligned.
   heard-aligned : Aligned E S.words.deployment stamp L after
   heard-aligned = record {
-    formed = λ p part. between-formed E p stamp (before p) (after p) (between p part) (k.formed p part) (late p part);
-    past = λ p part. between-point E p stamp (before p) (after p) (between p part) (k.formed p part) (late p part);
-    prefix = λ p part. between-prefix E p stamp (before p) (after p) (between p part) (K.closed p) (closed p part);
+    formed = λ p part. between-formed E K.submitted p stamp (before p) (after p) (between p part) (k.formed p part) (late p part);
+    past = λ p part. between-point E K.submitted p stamp (before p) (after p) (between p part) (k.formed p part) (late p part);
+    prefix = λ p part. between-prefix E K.submitted p stamp (before p) (after p) (between p part) (K.closed p) (closed p part);
     over = k.over;
     below = k.below;
-    only = λ p part. between-all E p stamp (before p) (after p) (between p part) (OfNumber K.number) (call-number K.number) (length (K.closed p)) (short p part) (k.only p part);
-    fresh = λ p q part other e. between-all E q stamp (before q) (after q) (between q other) IsCall (λ x c. c) (length (K.closed q)) (short q other) (k.fresh p q part other e);
-    ends = λ p part u i. k.ends p part u (between-in E p stamp (before p) (after p) (between p part) (Done K.number u) (λ c. c) (length (K.closed p)) (short p part) i);
-    snapshot = λ p part e. between-all E p stamp (before p) (after p) (between p part) NoRound call-round (length (K.closed p)) (short p part) (k.snapshot p part e);
+    only = λ p part. between-all E K.submitted p stamp (before p) (after p) (between p part) (OfNumber K.number) (call-number K.number) (length (K.closed p)) (short p part) (k.only p part);
+    fresh = λ p q part other e. between-all E K.submitted q stamp (before q) (after q) (between q other) IsCall (λ x c. c) (length (K.closed q)) (short q other) (k.fresh p q part other e);
+    ends = λ p part u i. k.ends p part u (between-in E K.submitted p stamp (before p) (after p) (between p part) (Done K.number u) (λ c. c) (length (K.closed p)) (short p part) i);
+    snapshot = λ p part e. between-all E K.submitted p stamp (before p) (after p) (between p part) NoRound call-round (length (K.closed p)) (short p part) (k.snapshot p part e);
     decided = λ p x part e.
         let d = k.decided p x part e in
         let prefix = prefix-trans (K.decided p) (B.heard.each p part).leadership.log (between p part).log ((B.heard.each p part).decided x e).0 (heard-between p part).1 in
-        (between-prefix E p stamp (before p) (after p) (between p part) (K.decided p) prefix, d.1, d.2);
+        (between-prefix E K.submitted p stamp (before p) (after p) (between p part) (K.decided p) prefix, d.1, d.2);
     agreed = λ x e. omega (arith, k.agreed x e, later);
     even = k.even;
   }
@@ -462,6 +517,7 @@ module _ (E : Database) (S T : LogState) (F M : Firm) (K : Transactions) (now st
     by = λ h a first start. by word h a B.heard.is_word.decided first (some h a first) start (B.heard.by h a first);
     each = λ p part. heard-part S T F M o K due p (B.heard.each p (on-part p part));
     aligned = subst (λ D. Aligned E D stamp L (whole T L K.heard)) (sym o.deployment) heard-aligned;
+    ends = λ x is. let k = B.heard.ends x is in record { asked = k.asked; unapplied = λ n i p part. k.unapplied n i p (on-part p part); new = λ p part. k.new p (on-part p part) };
   }
     where
       word : Membership
@@ -507,7 +563,7 @@ module _ (E : Database) (S T : LogState) (F M : Firm) (K : Transactions) (now st
       n = length u.prefix
 
       q : (due p K.heard ≡ []) × (k.new.log ≡ k.old.log ++ k.runs.calls) × (k.old.log ++ k.taken ≡ k.old.log)
-      q = goes-inert E S.logs T.logs (K.due p K.heard) (due p K.heard) stamp p K.heard k u.none
+      q = goes-inert E K.submitted S.logs T.logs (K.due p K.heard) (due p K.heard) stamp p K.heard k u.none
 
       stands : Prefix u.prefix k.old.log
       stands = subst (λ z. Prefix u.prefix z.log) (sym r.1) u.stands
@@ -517,7 +573,7 @@ module _ (E : Database) (S T : LogState) (F M : Firm) (K : Transactions) (now st
 
   -- Where the last transaction ended, it has ended.
   ended-on : (p : ℕ) → IsPart S p → IsEnded E S K p → IsEnded E T L p
-  ended-on p part e = (between-opened E p stamp (before p) (after p) (between p part) ∙ e.0, between-number E p stamp (before p) (after p) (between p part) ∙ e.1)
+  ended-on p part e = (between-opened E K.submitted p stamp (before p) (after p) (between p part) ∙ e.0, between-number E K.submitted p stamp (before p) (after p) (between p part) ∙ e.1)
 
   -- While a transaction is open and nothing is due, the log stays as it is.
   fed-on : (p : ℕ) (x : ℕ × ℕ) → IsPart S p → (stage E p (before p)).opened ≡ Some x → Fed S F K p → Fed T M L p
@@ -530,7 +586,7 @@ module _ (E : Database) (S T : LogState) (F M : Firm) (K : Transactions) (now st
       k = (goes-at p K.heard (B.heard.each p part).leadership part (B.heard.each p part).led).0
 
       q : (due p K.heard ≡ []) × (k.new.log ≡ k.old.log ++ k.runs.calls) × (k.old.log ++ k.taken ≡ k.old.log)
-      q = goes-inert E S.logs T.logs (K.due p K.heard) (due p K.heard) stamp p K.heard k f.none
+      q = goes-inert E K.submitted S.logs T.logs (K.due p K.heard) (due p K.heard) stamp p K.heard k f.none
 
       log : before p ≡ k.old.log
       log = ap (λ z. led_log (S.logs.leadership p K.heard) ++ z) f.none ∙ append-nil (led_log (S.logs.leadership p K.heard)) ∙ ap led_log k.was
@@ -542,11 +598,11 @@ module _ (E : Database) (S T : LogState) (F M : Firm) (K : Transactions) (now st
       same = ap led_log k.is ∙ q.1 ∙ ap (λ z. k.old.log ++ z) no_calls ∙ append-nil k.old.log ∙ ap led_log (sym k.was)
 
   -- how far the job at hand is
-  at-hand-on : (w : Work) (d : Option Decision) → AtHand E S F K w d → AtHand E T M L w d
+  at-hand-on : (w : Work) (d : Option Outcome) → AtHand E S F K w d → AtHand E T M L w d
   at-hand-on w None h = (
     h.0,
     λ p part. let is = on-part p part in let r = h.1 p is in
-        (between-opened E p stamp (before p) (after p) (between p is) ∙ r.0, λ has. fed-on p (K.number, w.round) is r.0 (r.1 has)),
+        (between-opened E K.submitted p stamp (before p) (after p) (between p is) ∙ r.0, λ has. fed-on p (K.number, w.round) is r.0 (r.1 has)),
   )
   at-hand-on w (Some d) h = λ p part. let is = on-part p part in let r = h p is in (ended-on p is r.0, λ done. settled-on p is (r.1 done))
 
@@ -555,13 +611,13 @@ module _ (E : Database) (S T : LogState) (F M : Firm) (K : Transactions) (now st
   idle-on p part h =
       let t = taken-at p K.heard part in (
         (rest-none t.0 (due p K.heard) (sym t.1 ∙ h.0)).1,
-        between-all E p stamp (before p) (after p) (between p part) IsCall (λ x c. c) (length (K.closed p)) (short p part) h.1,
+        between-all E K.submitted p stamp (before p) (after p) (between p part) IsCall (λ x c. c) (length (K.closed p)) (short p part) h.1,
       )
 
   -- An agent that stays as it is is as far as it was.
   pub phase-moved : (t : ℕ) (a : AgentState) (phase : Phase) → PhaseOk E S F K t a phase → PhaseOk E T M L t a phase
   phase-moved t a Off k = k
-  phase-moved t a (Hears told) k = (k.0, all-mono _ _ (λ x. state-on E S T F M o x.part t x.transaction x.is_open x.outcome) told k.1, k.2, k.3)
+  phase-moved t a (Hears told) k = (k.0, all-mono _ _ (state-on E S T F M o t) told k.1, k.2, k.3)
   phase-moved t a (Closes m parts finished) k = (
     k.0,
     k.1,
@@ -571,6 +627,29 @@ module _ (E : Database) (S T : LogState) (F M : Firm) (K : Transactions) (now st
   )
   phase-moved t a Idle k = (k.0, k.1, k.2, λ p part. let is = on-part p part in idle-on p is (k.3 p is))
   phase-moved t a Works k = (k.0, k.1, (k.2.0, k.2.1, k.2.2, at-hand-on k.2.0 k.2.0.decision k.2.3))
+
+  -- What an agent knows covers what it covered.
+  covers-on : (replies : List LastReply) → CoversAll S K replies → CoversAll T L replies
+  covers-on replies k p m x part i = let is = on-part p part in
+      k p m x is (between-in E K.submitted p stamp (before p) (after p) (between p is) (Done m x) (λ c. c) 0 (omega arith) i)
+
+  pub knows-moved : (i : Initiating) → Knows S F K i → Knows T M L i
+  knows-moved i k = record {
+    rise = k.rise;
+    covers = covers i.phase k.covers;
+    decided = k.decided;
+    fresh = k.fresh;
+    from = all-mono _ _ (known-on S T F M o K.submitted K.heard i.work) i.replies k.from;
+    first = k.first;
+    outcome = k.outcome;
+  }
+    where
+      covers : (phase : Phase) → CoversIn S K i.replies phase → CoversIn T L i.replies phase
+      covers Off c = tt
+      covers (Hears told) c = tt
+      covers (Closes m parts finished) c = covers-on i.replies c
+      covers Idle c = covers-on i.replies c
+      covers Works c = covers-on i.replies c
 
   pub agent-moved : (h : ℕ) → T.words.agents h ≡ S.words.agents h → AgentCalls E S F K h → AgentCalls E T M L h
   agent-moved h same k = record {
@@ -582,6 +661,7 @@ module _ (E : Database) (S T : LogState) (F M : Firm) (K : Transactions) (now st
         subst (λ a. PhaseOk E T M L (term_of w) a a.initiating.phase) (sym same) (phase-moved (term_of w) (S.words.agents h) (S.words.agents h).initiating.phase phase),
       )
     ];
+    knows = subst (λ a. Knows T M L a.initiating) (sym same) (knows-moved (S.words.agents h).initiating k.knows);
     waiting = subst (λ a. AllByRecursion (WaitingAnswer E T M L) a.waiting) (sym same)
         (all-mono _ _ (waiting-on E S T F M o K L (omega arith)) (S.words.agents h).waiting k.waiting);
   }
@@ -595,12 +675,13 @@ aligned-later E D now stamp l K logs k = aligned-under E D now stamp K K.heard l
 pub books-later : (E : Database) (S : LogState) (F : Firm) (K : Transactions) (now stamp : ℕ) → now ≤ stamp → Books E S F K now → Books E S F K stamp
 books-later E S F K now stamp l B = record {
   due = B.due;
-  leaderships = λ p t g part led. let f = B.leaderships p t g part led in record { formed = f.formed; past = omega (arith, f.past, l); unheard = f.unheard };
+  leaderships = λ p t g part led. let f = B.leaderships p t g part led in record { formed = f.formed; past = omega (arith, f.past, l); unheard = f.unheard; calls = f.calls };
   heard = let h = B.heard in record {
     word = h.word;
     is_word = h.is_word;
     by = h.by;
     each = h.each;
     aligned = aligned-later E S.words.deployment now stamp l K (whole S K K.heard) h.aligned;
+    ends = h.ends;
   };
 }

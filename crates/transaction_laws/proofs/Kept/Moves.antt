@@ -1,12 +1,13 @@
 -- Of what the proofs speak: what an event makes of the history of transactions.
+use Rattle.volt_wire.specs.declared.end.End.TheVariants as end
 use Rattle.volt_wire.specs.declared.message.Msg.TheVariants as msg
-use Rattle.transaction_laws.proofs.Names.{AgentState, AllByRecursion, Books, Database, Entry, Firm, In, IsSlot, Leadership, Letter, List, LogState, Logs, Membership, None, Off, OnlyCalls, Onward, OrderOk, PhaseOk, Prefix, Sends, Site, Some, Sp, Top, Transactions, Turn, [], leader, new_agent, orders, part, stage, start_of_slot, term_of, ℕ, ◌++◌, ◌≡◌, ◌≤◌, ◌⊎◌}
+use Rattle.transaction_laws.proofs.Names.{Actor, Agent, AgentState, AllByRecursion, Books, CallsOk, Database, Deployment, End, Entry, Firm, In, IsSlot, Knows, Leadership, Letter, List, LogState, Logs, Membership, None, Off, OnlyCalls, Onward, OrderOk, PhaseOk, Prefix, Replied, Sends, Site, Some, Sp, Submissions, Top, Transactions, Turn, Waiting, [], leader, new_agent, orders, part, stage, start_of_slot, term_of, ℕ, ◌++◌, ◌≡◌, ◌≤◌, ◌⊎◌}
 
 -- ---- entries
 
 -- calls on one partition that run at this stamp
 abbrev pub IsCallAt : ℕ → Entry → Type 0
-IsCallAt stamp (Sp call point body) = point ≡ stamp
+IsCallAt stamp (Sp call client point body) = point ≡ stamp
 IsCallAt stamp x = ⊥
 
 abbrev pub CallsAt : ℕ → List Entry → Type 0
@@ -32,23 +33,24 @@ pub record Onto (S T : LogState) (F M : Firm) : Type 0 where
 
 -- ---- the turn of a site, in its effect on the log of one partition's leader in one term
 
--- calls run behind a log, where no transaction is open
-pub record RunsBehind (E : Database) (p stamp : ℕ) (log after : List Entry) : Type 0 where
+-- Calls run behind a log, where no transaction is open: none that it applies already, and each as it was submitted.
+pub record RunsBehind (E : Database) (A : Submissions) (p stamp : ℕ) (log after : List Entry) : Type 0 where
   pub calls : List Entry
   pub is : after ≡ log ++ calls
   pub at : CallsAt stamp calls
   pub room : (calls ≡ []) ⊎ ((stage E p log).opened ≡ None)
+  pub once : CallsOk A p log → CallsOk A p after
 
 -- The term stays as it was, or it begins, or its leader takes what was due to it and runs calls.
-pub record BeginsTerm (E : Database) (F G : Logs) (due next : List Entry) (stamp p t : ℕ) : Type 0 where
+pub record BeginsTerm (E : Database) (A : Submissions) (F G : Logs) (due next : List Entry) (stamp p t : ℕ) : Type 0 where
   pub none : F.leadership p t ≡ None
   pub leadership : Leadership
   pub led : G.leadership p t ≡ Some leadership
   pub before : due ≡ []
   pub after : next ≡ []
-  pub runs : RunsBehind E p stamp leadership.begun leadership.log
+  pub runs : RunsBehind E A p stamp leadership.begun leadership.log
 
-pub record GoesOnTerm (E : Database) (F G : Logs) (due next : List Entry) (stamp p t : ℕ) : Type 0 where
+pub record GoesOnTerm (E : Database) (A : Submissions) (F G : Logs) (due next : List Entry) (stamp p t : ℕ) : Type 0 where
   pub old : Leadership
   pub was : F.leadership p t ≡ Some old
   pub new : Leadership
@@ -56,13 +58,13 @@ pub record GoesOnTerm (E : Database) (F G : Logs) (due next : List Entry) (stamp
   pub begun : new.begun ≡ old.begun
   pub taken : List Entry
   pub due_is : due ≡ taken ++ next
-  pub runs : RunsBehind E p stamp (old.log ++ taken) new.log
+  pub runs : RunsBehind E A p stamp (old.log ++ taken) new.log
 
-abbrev pub Moved : Database → Logs → Logs → (ℕ → ℕ → List Entry) → (ℕ → ℕ → List Entry) → ℕ → ℕ → ℕ → Type 0
-Moved E F G due next stamp p t =
+abbrev pub Moved : Database → Submissions → Logs → Logs → (ℕ → ℕ → List Entry) → (ℕ → ℕ → List Entry) → ℕ → ℕ → ℕ → Type 0
+Moved E A F G due next stamp p t =
     ((G.leadership p t ≡ F.leadership p t) × (next p t ≡ due p t))
-    ⊎ BeginsTerm E F G (due p t) (next p t) stamp p t
-    ⊎ GoesOnTerm E F G (due p t) (next p t) stamp p t
+    ⊎ BeginsTerm E A F G (due p t) (next p t) stamp p t
+    ⊎ GoesOnTerm E A F G (due p t) (next p t) stamp p t
 
 -- with what is due by then
 abbrev pub with_due : Transactions → (ℕ → ℕ → List Entry) → Transactions
@@ -89,6 +91,35 @@ pub record SendsDue (S : LogState) (n : ℕ) (w : Membership) (K L : Transaction
       → L.due (part S c) (term_of w) ≡ K.due (part S c) (term_of w) ++ orders a (term_of w) (out (Site c))
   pub others : (p t : ℕ) → (t ≡ term_of w → ⊥) → L.due p t ≡ K.due p t
 
+-- what may be said of a call and its end
+abbrev pub Ending : Type 1
+Ending = ℕ → End → Type 0
+
+-- What an agent tells another one of a call, and what a client.
+abbrev pub Tells : Ending → Ending → Letter → Type 0
+Tells M R l = elim l.body as (λ _. Type 0) [
+  | msg.MpReply call e ↦ M call e
+  | msg.Answer call e ↦ R call e
+  | _ ↦ Unit {0}
+]
+
+abbrev pub AllTell : Ending → Ending → Sends → Type 0
+AllTell M R out = (b : Actor) → AllByRecursion (Tells M R) (out b)
+
+-- What it is told by another agent or by a site.
+abbrev pub Brings : Ending → Actor → Letter → Type 0
+Brings R (Agent h) l = elim l.body as (λ _. Type 0) [ msg.MpReply call e ↦ R call e | _ ↦ Unit {0} ]
+Brings R (Site c) l = elim l.body as (λ _. Type 0) [ msg.Reply call start e ↦ R call e | _ ↦ Unit {0} ]
+Brings R from l = Unit {0}
+
+abbrev pub WaitsTold : Ending → Waiting → Type 0
+WaitsTold R x = Brings R x.from x.letter
+
+-- A client may be told that a partition is down, and what an initiator answers.
+pub record MayTell (G : Logs) (D : Deployment) (F : Firm) (R : Ending) : Type 0 where
+  pub down : (call part : ℕ) → R call (end.Down part)
+  pub replied : (call : ℕ) (e : End) → Replied G D F call e → R call e
+
 -- A turn of an agent that is an initiator, with word w, and stays one with that.
 pub record InitiatorGoes (E : Database) (S : LogState) (F : Firm) (K : Transactions) (stamp n : ℕ) (w : Membership) (a : AgentState) (t : Turn AgentState) : Type 0 where
   pub after : Transactions
@@ -97,14 +128,23 @@ pub record InitiatorGoes (E : Database) (S : LogState) (F : Firm) (K : Transacti
   pub start : t.state.start ≡ a.start
   pub decided : t.state.decided ≡ a.decided
   pub waiting : t.state.waiting ≡ a.waiting
+  pub submitted : after.submitted ≡ K.submitted
   pub phase : PhaseOk E S F after (term_of w) t.state t.state.initiating.phase
+  pub knows : Knows S F after t.state.initiating
   pub sends : SendsDue S n w K after t.sends
 
+-- What it answers is the end that stands in all partitions.
+pub record InitiatorActs (E : Database) (S : LogState) (F : Firm) (K : Transactions) (stamp n : ℕ) (w : Membership) (a : AgentState) (t : Turn AgentState) : Type 0 where
+  pub goes : InitiatorGoes E S F K stamp n w a t
+  pub tells : AllTell (Replied S.logs S.words.deployment F) (Replied S.logs S.words.deployment F) t.sends
+
 -- A turn of one that isn't.
-pub record OffGoes (a : AgentState) (t : Turn AgentState) : Type 0 where
+pub record OffGoes (M R : Ending) (a : AgentState) (t : Turn AgentState) : Type 0 where
   pub phase : t.state.initiating.phase ≡ Off
   pub work : t.state.initiating.work ≡ None
   pub next : t.state.initiating.next ≡ 0
+  pub replies : t.state.initiating.replies ≡ []
   pub sends : (c : ℕ) → AllByRecursion NoOrder (t.sends (Site c))
+  pub tells : AllTell M R t.sends
   -- it goes on, or it has stopped
   pub kept : (t.state ≡ new_agent 0) ⊎ ((t.state.start ≡ a.start) × (t.state.decided ≡ a.decided) × (t.state.waiting ≡ a.waiting))

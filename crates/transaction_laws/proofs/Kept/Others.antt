@@ -46,5 +46,5 @@ module _ (E : Database) (S : LogState) (F : Firm) (halted : Bool) (K : Transacti
       agents = λ h. agent-moved E S T F F K now (now + 1) K.due (omega arith) H (λ p t b. J) onto (λ p t q. inl (refl, refl)) k.books h refl (k.agents h);
       halts = λ e shown s.
           let c = k.halts e shown (record { one = s.one; none = s.none }) in
-          (c.0, aligned-later E S.words.deployment now (now + 1) (omega arith) c.0 (chosen S.words.deployment shown) c.1);
+          (c.0, aligned-later E S.words.deployment now (now + 1) (omega arith) c.0 (chosen S.words.deployment shown) c.1, c.2);
     }

@@ -1,7 +1,7 @@
 -- What a recovery chooses, where none was stopped since the last one that worked: logs of which one transaction at most isn't over everywhere.
-use Rattle.transaction_laws.proofs.Names.{Aligned, Books, Chosen, ContentOk, Database, DisksHold, Entry, Everywhere, Firm, HeardPart, IsPart, Leadership, LeadershipFits, List, LogState, LogsHold, Prefix, Shown, Shows, Some, Transactions, WellFormed, Written, all-at, ap, arith, at_least-mark, cases_lt, chosen, chosen-firm, false, firm-prefix, firm-within, first_stage, inl, inr, led_log, length, length-take, part, prefix-append, prefix-take, prefix-trans, prefixes-order, shown_at, shows-slot, stage, subst, sym, take, take-grown, take_all, top-chosen, whole, ℕ, ◌++◌, ◌∙◌, ◌≡◌, ◌≤◌}
+use Rattle.transaction_laws.proofs.Names.{Aligned, Books, CallsOk, Chosen, ContentOk, Database, DisksHold, Entry, Everywhere, Firm, HeardPart, IsPart, Leadership, LeadershipFits, List, LogState, LogsHold, Prefix, Shown, Shows, Some, Transactions, WellFormed, Written, all-at, ap, arith, at_least-mark, cases_lt, chosen, chosen-firm, false, firm-prefix, firm-within, first_stage, inl, inr, led_log, length, length-take, part, prefix-append, prefix-take, prefix-trans, prefixes-order, shown_at, shows-slot, stage, subst, sym, take, take-grown, take_all, top-chosen, whole, ℕ, ◌++◌, ◌∙◌, ◌≡◌, ◌≤◌}
 use Rattle.transaction_laws.proofs.Kept.{Under, inert-leadership}
-use Rattle.transaction_laws.proofs.Entries.{formed-prefix, prefix-point, under-prefix, under-trans, aligned-under}
+use Rattle.transaction_laws.proofs.Entries.{formed-prefix, ok-prefix, prefix-point, under-prefix, under-trans, aligned-under}
 
 module _ (E : Database) (S : LogState) (F : Firm) (K : Transactions) (now : ℕ) (H : LogsHold S) (disks : DisksHold S F false) (B : Books E S F K now) (shown : ℕ → Shown)
     (shows : Shows S shown) (p : ℕ) (is_part : IsPart S p) where
@@ -47,6 +47,9 @@ module _ (E : Database) (S : LogState) (F : Firm) (K : Transactions) (now : ℕ)
   whole-is : whole S K K.heard p ≡ h.leadership.log ++ K.due p K.heard
   whole-is = ap (λ r. led_log r ++ K.due p K.heard) h.led
 
+  chosen-calls : CallsOk K.submitted p log
+  chosen-calls = ok-prefix K.submitted p log (w.later.log ++ K.due p w.term) with-due fits.calls
+
   chosen-under : Under log (whole S K K.heard p)
   chosen-under = subst (Under log) (sym whole-is) (under-trans log h.leadership.log (h.leadership.log ++ K.due p K.heard)
       (under-trans log w.later.log h.leadership.log (under-prefix log w.later.log prefix)
@@ -86,3 +89,8 @@ choice-aligned E S F K now H disks B shown shows =
     (λ p q. chosen-formed E S F K now H disks B shown shows p q)
     (λ p q. (chosen-under E S F K now H disks B shown shows p q, (let k = B.heard.each p q in chosen-has E S F K now H disks B shown shows p q (K.closed p) k.inside k.closed)))
     (λ p x q e. let k = (B.heard.each p q).decided x e in chosen-has E S F K now H disks B shown shows p q (K.decided p) k.0 k.1)
+
+-- Each call stands once in each of them.
+pub choice-calls : (E : Database) (S : LogState) (F : Firm) (K : Transactions) (now : ℕ) → LogsHold S → DisksHold S F false → Books E S F K now → (shown : ℕ → Shown) → Shows S shown
+    → (p : ℕ) → IsPart S p → CallsOk K.submitted p (chosen S.words.deployment shown p)
+choice-calls E S F K now H disks B shown shows p part = chosen-calls E S F K now H disks B shown shows p part

@@ -1,9 +1,12 @@
 -- How an epoch begins: all holds of transactions in the first world, once a recovery has worked, and after one that was stopped.
 use Rattle.volt_wire.specs.declared.event.Event.TheVariants as event
-use Rattle.transaction_laws.proofs.Names.{Agent, AgentState, Aligned, AnswerOk, AtLeast, Books, Bool, CallsHold, Database, Deployment, DisksHold, DisksShow, Done, Entry, Everywhere, Firm, HasLogs, HeardOk, HeardPart, Idle, In, InitiatingOk, Input, IsLayout, IsPart, IsSlot, Leadership, LeadershipFits, List, LogState, LogsHold, Membership, None, Off, Option, PhaseOk, Shown, Shows, Site, SiteCalls, SiteState, Some, ToSiteOk, Top, Transactions, World, [], acked_in, acknowledged, agent-stopped, all-mono, allows, and_parts, anew-logs, anew-logs-are, ap, append-nil, arith, at_least-mark, best-chosen, best_of, cases_Bool, chosen, disk-shows, div-mul-add, div-mul-le_self, drop, drop_all, eq-eqb, eqb-same, eqb-true, false, false≢true, firm_in, first-logs, first-logs-are, first_leadership, first_world, get-none, greatest_done, if-false, if-true, if◌then◌else◌, initiator, initiator-first, inl, inr, is_host, is_shown, is_slot_or_none, is_stopped, least, led_log, left-top, length, lesser, log_state, map, mark_of, may_recover, member_agent, member_site, names, nat_lt, nat_tests, new-above, new_agent, new_base, new_content, new_log, new_logs, new_word, no_site, none-and-some, not-both, onward-same, option_map, orders, other_copies, own_ack, part, part_of_slot, parts, prefix-refl, recovered, refl, same-some, shown_of, shows-slot, since, site-stopped, site_start, slice_index, slot_of, slots, slots-part, slots_of_part, some-here, start_from, starts_anew, stays_stopped, stopped_site, subst, suc, sym, term_in, term_of, true, unwrap_or, whole, world-shows, zero, ℕ, ◌++◌, ◌+◌, ◌/◌, ◌<◌, ◌==◌, ◌∙◌, ◌∷◌, ◌≡◌, ◌≤◌, ◌⊎◌}
-use Rattle.transaction_laws.proofs.Kept.{Onto, aligned-later, answer-on, to_site-on, books-later, books-moved, keeps-same, waiting-on}
-use Rattle.transaction_laws.proofs.Entries.{greatest-done, Recovered, aligned-recovered, aligned-again, recovered-even, AppliedInAll}
-use Rattle.transaction_laws.proofs.Runs.Choices.{choice-aligned}
+use Rattle.cluster_model.specs.AgentState.{no_initiator}
+use Rattle.cluster_model.specs.World.{first_initiating}
+use Rattle.transaction_laws.proofs.Names.{Agent, AgentState, AllByRecursion, KnownReply, last_replies, AllBefore, Aligned, CallsOk, Covered, CoversIn, Initiating, Knows, Outcome, RepliesRise, Submissions, AnswerOk, AtLeast, Books, Bool, CallsHold, Database, Deployment, DisksHold, DisksShow, Done, Entry, Everywhere, Firm, HasLogs, HeardOk, HeardPart, Idle, In, InitiatingOk, Input, IsLayout, IsPart, IsSlot, LastReply, Leadership, LeadershipFits, List, LogState, LogsHold, Membership, None, Off, Option, PhaseOk, Shown, Shows, Site, SiteCalls, SiteState, Some, ToSiteOk, Top, Transactions, World, [], acked_in, acknowledged, agent-stopped, all-mono, allows, and_parts, anew-logs, anew-logs-are, ap, append-nil, arith, at_least-mark, best-chosen, best_of, cases_Bool, chosen, disk-shows, div-mul-add, div-mul-le_self, drop, drop_all, eq-eqb, eqb-same, eqb-true, false, false≢true, firm_in, first-logs, first-logs-are, first_leadership, first_world, get-none, greatest_done, greatest_replies, if-false, if-true, if◌then◌else◌, initiator, initiator-first, inl, inr, is_host, is_shown, is_slot_or_none, is_stopped, least, led_log, left-top, length, lesser, log_state, map, mark_of, may_recover, member_agent, member_site, names, nat_lt, nat_tests, new-above, new_agent, new_base, new_content, new_log, new_logs, new_word, no_site, none-and-some, not-both, onward-same, option_map, orders, other_copies, own_ack, part, part_of_slot, parts, prefix-refl, recovered, refl, same-some, shown_of, shows-slot, since, site-stopped, site_start, slice_index, slot_of, slots, slots-part, slots_of_part, some-here, start_from, starts_anew, stays_stopped, stopped_site, subst, suc, sym, term_in, term_of, true, unwrap_or, whole, world-shows, zero, ℕ, ◌++◌, ◌+◌, ◌/◌, ◌<◌, ◌==◌, ◌∙◌, ◌∷◌, ◌≡◌, ◌≤◌, ◌⊎◌}
+use Rattle.transaction_laws.proofs.Kept.{Onto, aligned-later, answer-on, to_site-on, books-later, books-moved, keeps-same, known-on, waiting-on}
+use Rattle.transaction_laws.proofs.Entries.{InLog, greatest-in-logs, replies-in-log, greatest-covered, greatest-done, recovered-ok, Recovered, aligned-recovered, aligned-again, recovered-even, AppliedInAll}
+use Rattle.transaction_laws.proofs.Initiators.{in-stood}
+use Rattle.transaction_laws.proofs.Runs.Choices.{choice-aligned, choice-calls}
 
 -- ---- numbers
 
@@ -30,17 +33,18 @@ least-first a (b ∷ bs) n e = go (least b bs) e
 -- ---- what holds as an epoch begins
 
 -- the history with which it begins: the initiator of the first word has heard of all, and all that is in the logs is over
-abbrev pub new_transactions : Database → Deployment → ℕ → (ℕ → List Entry) → Transactions
-new_transactions E D base log = record { heard = base; number = greatest_done E log (parts D); closed = log; agreed = None; decided = log; due = λ p t. [] }
+abbrev pub new_transactions : Database → Deployment → ℕ → (ℕ → List Entry) → Submissions → Transactions
+new_transactions E D base log A =
+    record { heard = base; number = greatest_done E log (parts D); closed = log; agreed = None; decided = log; due = λ p t. []; submitted = A }
 
 -- Each host's agent and each slot's site runs as a member of the first word, with its partition's log, in which all is over. Nothing is
 -- under way between agents and sites.
-record CallsBegin (E : Database) (S : LogState) (base start now : ℕ) (log : ℕ → List Entry) : Type 0 where
+record CallsBegin (E : Database) (S : LogState) (base start now : ℕ) (log : ℕ → List Entry) (replies : List LastReply) (A : Submissions) : Type 0 where
   positive : 0 < start
   some_host : is_host S.words.deployment 0 ≡ true
   logs : S.logs ≡ new_logs S.words.deployment base start log
   hosts : (h : ℕ) → is_host S.words.deployment h ≡ true
-      → S.words.agents h ≡ member_agent (new_word S.words.deployment base start) (greatest_done E log (parts S.words.deployment) + 1) start h
+      → S.words.agents h ≡ member_agent (new_word S.words.deployment base start) (greatest_done E log (parts S.words.deployment) + 1) replies start h
   others : (h : ℕ) → is_host S.words.deployment h ≡ false → S.words.agents h ≡ new_agent 0
   members : (c : ℕ) → IsSlot S c
       → (x : SiteState) × (S.sites c ≡ member_site S.words.deployment c x (new_word S.words.deployment base start) (start_from S.words.deployment start c) (log (part S c)))
@@ -48,8 +52,15 @@ record CallsBegin (E : Database) (S : LogState) (base start now : ℕ) (log : �
   answers : (c h : ℕ) → S.words.channel (Site c) (Agent h) ≡ []
   over : (p : ℕ) → IsPart S p → Recovered E S.words.deployment now log p
   even : AppliedInAll S.words.deployment log
+  -- each call stands once, and the replies that host 0 knows cover all ends
+  calls : (p : ℕ) → IsPart S p → CallsOk A p (log p)
+  rise : RepliesRise replies
+  covered : (p m : ℕ) (o : Outcome) → IsPart S p → In (Done m o) (log p) → Covered replies o
+  -- each of these replies is of a log
+  sources : AllByRecursion (λ r. (p : ℕ) × IsPart S p × InLog A (log p) r) replies
 
-module _ (E : Database) (S : LogState) (H : LogsHold S) (base start now : ℕ) (log : ℕ → List Entry) (k : CallsBegin E S base start now log) where
+module _ (E : Database) (S : LogState) (H : LogsHold S) (base start now : ℕ) (log : ℕ → List Entry) (replies : List LastReply) (A : Submissions)
+    (k : CallsBegin E S base start now log replies A) where
   abbrev D : Deployment
   D = S.words.deployment
 
@@ -57,7 +68,7 @@ module _ (E : Database) (S : LogState) (H : LogsHold S) (base start now : ℕ) (
   W = new_word D base start
 
   abbrev K : Transactions
-  K = new_transactions E D base log
+  K = new_transactions E D base log A
 
   -- what is counted firm
   abbrev all_firm : Firm
@@ -147,6 +158,7 @@ module _ (E : Database) (S : LogState) (H : LogsHold S) (base start now : ℕ) (
     by = λ h a e _. omega (arith, word-term, ap term_in (host-decided h (first-host h a e)));
     each = heard-part;
     aligned = aligned-begins;
+    ends = λ o is. absurd (none-and-some refl is);
   }
 
   books-begin : Books E S all_firm K now
@@ -156,12 +168,13 @@ module _ (E : Database) (S : LogState) (H : LogsHold S) (base start now : ℕ) (
       formed = rw (append-nil (log p)) (k.over p q).formed;
       past = rw (append-nil (log p)) (k.over p q).past;
       unheard = λ l. absurd (omega (arith, l, r.0));
+      calls = rw (append-nil (log p)) (k.calls p q);
     });
     heard = heard-begins;
   }
 
   -- The agent of host 0 is an idle initiator.
-  idle-begins : PhaseOk E S all_firm K (term_of W) (member_agent W (K.number + 1) start 0) Idle
+  idle-begins : PhaseOk E S all_firm K (term_of W) (member_agent W (K.number + 1) replies start 0) Idle
   idle-begins = (sym word-term, refl, omega arith, λ p q. (refl, rw (since-none p) tt))
 
   -- one that isn't
@@ -174,7 +187,7 @@ module _ (E : Database) (S : LogState) (H : LogsHold S) (base start now : ℕ) (
     where
       choice : (h : ℕ) (b : Bool) → is_host D h ≡ b → InitiatingOk E S all_firm K h
       choice h false q = off-begins h (new_agent 0) (k.others h q) (refl, refl, refl)
-      choice (suc h) true q = off-begins (suc h) (member_agent W (K.number + 1) start (suc h)) (k.hosts (suc h) q) (refl, refl, refl)
+      choice (suc h) true q = off-begins (suc h) (member_agent W (K.number + 1) replies start (suc h)) (k.hosts (suc h) q) (refl, refl, refl)
       choice zero true q =
           let e = k.hosts 0 q in
           inr (
@@ -186,6 +199,41 @@ module _ (E : Database) (S : LogState) (H : LogsHold S) (base start now : ℕ) (
             },
             subst (λ a. PhaseOk E S all_firm K (term_of W) a a.initiating.phase) (sym e) idle-begins,
           )
+
+  -- The ends in the logs are firm.
+  source-known : (r : LastReply) → (p : ℕ) × IsPart S p × InLog A (log p) r → KnownReply S all_firm A base None r
+  source-known r (p, part, inl one) = inl (inl one)
+  source-known r (p, part, inr (m, o, i, answers)) = inl (inr (record {
+    part = p;
+    is_part = part;
+    number = m;
+    outcome = o;
+    answers = answers;
+    stood = in-stood S all_firm p base (first_leadership log p) (first-led p) (log p) (prefix-refl (log p)) (everywhere p) (Done m o) i;
+  }))
+
+  -- What the agent of host 0 knows covers all.
+  knows-begins : (h : ℕ) → Knows S all_firm K (S.words.agents h).initiating
+  knows-begins h = choice h (is_host D h) refl
+    where
+      plain : (i : Initiating) → i.work ≡ None → RepliesRise i.replies → CoversIn S K i.replies i.phase → AllByRecursion (KnownReply S all_firm A base None) i.replies → (i.next ≡ 0 → i.replies ≡ [])
+          → Knows S all_firm K i
+      plain i work rise covers from first = record {
+        rise = rise;
+        covers = covers;
+        decided = λ w o is decision. absurd (none-and-some work is);
+        fresh = λ w works is none. absurd (none-and-some work is);
+        from = subst (λ z. AllByRecursion (KnownReply S all_firm A base z) i.replies) (sym work) from;
+        first = first;
+        outcome = λ w o is decision. absurd (none-and-some work is);
+      }
+
+      choice : (h : ℕ) (b : Bool) → is_host D h ≡ b → Knows S all_firm K (S.words.agents h).initiating
+      choice h false q = subst (λ a. Knows S all_firm K a.initiating) (sym (k.others h q)) (plain (new_agent 0).initiating refl tt tt tt (λ z. refl))
+      choice (suc h) true q = subst (λ a. Knows S all_firm K a.initiating) (sym (k.hosts (suc h) q)) (plain no_initiator refl tt tt tt (λ z. refl))
+      choice zero true q = subst (λ a. Knows S all_firm K a.initiating) (sym (k.hosts 0 q))
+          (plain (first_initiating 0 (K.number + 1) replies) refl k.rise (λ p m o part i. k.covered p m o part (subst (In (Done m o)) (whole-is p) i))
+          (all-mono _ _ source-known replies k.sources) (λ z. absurd (omega (arith, z))))
 
   waiting-begins : (h : ℕ) → (S.words.agents h).waiting ≡ []
   waiting-begins h = choice (is_host D h) refl
@@ -229,7 +277,7 @@ module _ (E : Database) (S : LogState) (H : LogsHold S) (base start now : ℕ) (
     to_agents = λ c h q. rw (k.answers c h) tt;
     environment = λ c h out. k.answers c h;
     sites = λ c q up. site-begins c q;
-    agents = λ h. record { initiating = initiating-begins h; waiting = rw (waiting-begins h) tt };
+    agents = λ h. record { initiating = initiating-begins h; knows = knows-begins h; waiting = rw (waiting-begins h) tt };
     halts = λ e. absurd (false≢true e);
   }
 
@@ -240,15 +288,15 @@ over-first : (E : Database) (D : Deployment) (now p : ℕ) → nat_lt p (parts D
 over-first E D now p q = record { formed = tt; past = omega arith; over = refl; number = greatest-done E (λ p. []) (parts D) p (grind (arith, nat_tests, q)) }
 
 -- In the first world.
-pub first-calls : (E : Database) (I : Input) (positive : 0 < I.base) → IsLayout I.deployment.layout.hosts I.deployment.layout.sites I.deployment.layout.k → (now : ℕ)
+pub first-calls : (E : Database) (I : Input) (positive : 0 < I.base) → IsLayout I.deployment.layout.hosts I.deployment.layout.sites I.deployment.layout.k → (now : ℕ) (A : Submissions)
     → let k = first-logs E I positive in
-    CallsHold E (log_state (first_world E I) k.owner k.history k.logs) (firm_in (first_world E I)) false (new_transactions E I.deployment I.base (λ p. [])) now
-first-calls E I positive lay now =
+    CallsHold E (log_state (first_world E I) k.owner k.history k.logs) (firm_in (first_world E I)) false (new_transactions E I.deployment I.base (λ p. []) A) now
+first-calls E I positive lay now A =
     let D = I.deployment in
     let w = first_world E I in
     let k = first-logs E I positive in
-    let a = member_agent (new_word D I.base 1) (greatest_done E (λ p. []) (parts D) + 1) 1 in
-    calls-begin E (log_state w k.owner k.history k.logs) k.holds I.base 1 now (λ p. []) (record {
+    let a = member_agent (new_word D I.base 1) (greatest_done E (λ p. []) (parts D) + 1) [] 1 in
+    calls-begin E (log_state w k.owner k.history k.logs) k.holds I.base 1 now (λ p. []) [] A (record {
       positive = omega arith;
       some_host = host-there D lay;
       logs = first-logs-are E I positive;
@@ -259,28 +307,38 @@ first-calls E I positive lay now =
       answers = λ c h. refl;
       over = over-first E D now;
       even = λ p q m x o part other point i. i;
+      calls = λ p q. record { once = tt; asked = tt };
+      rise = tt;
+      covered = λ p m o q i. absurd i;
+      sources = tt;
     })
 
 -- ---- what disks may show
 
--- Whatever contents the disks show, the chosen logs are aligned.
+-- Whatever contents the disks show, the chosen logs are aligned, and each call stands once in each.
 pub any-aligned : (E : Database) (S : LogState) (F : Firm) (halted : Bool) (K : Transactions) (now stamp : ℕ) → LogsHold S → DisksHold S F halted → CallsHold E S F halted K now
     → now ≤ stamp → (shown : ℕ → Shown) → Shows S shown → (L : Transactions) × Aligned E S.words.deployment stamp L (chosen S.words.deployment shown)
-any-aligned E S F false K now stamp H disks k l shown shows = (K, choice-aligned E S F K stamp H disks (books-later E S F K now stamp l k.books) shown shows)
+    × ((p : ℕ) → IsPart S p → CallsOk K.submitted p (chosen S.words.deployment shown p))
+any-aligned E S F false K now stamp H disks k l shown shows = (
+  K,
+  choice-aligned E S F K stamp H disks (books-later E S F K now stamp l k.books) shown shows,
+  choice-calls E S F K now H disks k.books shown shows,
+)
 any-aligned E S F true K now stamp H disks k l shown shows =
     let r = k.halts refl shown shows in
-    (r.0, aligned-later E S.words.deployment now stamp l r.0 (chosen S.words.deployment shown) r.1)
+    (r.0, aligned-later E S.words.deployment now stamp l r.0 (chosen S.words.deployment shown) r.1, r.2)
 
 -- ---- a recovery that works
 
 -- It begins an epoch with what was chosen and closed.
 pub anew-calls : (E : Database) (w : World) (shown : List ℕ) (k : HasLogs w) (F : Firm) (halted : Bool) → DisksHold (log_state w k.owner k.history k.logs) F halted
-    → (K : Transactions) (now stamp : ℕ) → CallsHold E (log_state w k.owner k.history k.logs) F halted K now → now ≤ stamp → is_shown w shown None ≡ true
+    → (K : Transactions) (now stamp : ℕ) → CallsHold E (log_state w k.owner k.history k.logs) F halted K now → now ≤ stamp → AllBefore K.submitted (stamp + 1)
+    → is_shown w shown None ≡ true
     → IsLayout w.deployment.layout.hosts w.deployment.layout.sites w.deployment.layout.k
     → let a = anew-logs E w shown k in
     CallsHold E (log_state (starts_anew E w shown) a.owner a.history a.logs) (firm_in (starts_anew E w shown)) false
-    (new_transactions E w.deployment (new_base w shown) (new_log E w shown)) stamp
-anew-calls E w shown k F halted disks K now stamp calls l e lay =
+    (new_transactions E w.deployment (new_base w shown) (new_log E w shown) K.submitted) stamp
+anew-calls E w shown k F halted disks K now stamp calls l past e lay =
     let D = w.deployment in
     let S = log_state w k.owner k.history k.logs in
     let v = starts_anew E w shown in
@@ -289,9 +347,12 @@ anew-calls E w shown k F halted disks K now stamp calls l e lay =
     let log = new_log E w shown in
     let word = new_word D base start in
     let a = anew-logs E w shown k in
-    let agent = member_agent word (greatest_done E log (parts D) + 1) start in
+    let replies = greatest_replies E log (parts D) in
+    let agent = member_agent word (greatest_done E log (parts D) + 1) replies start in
     let chose = any-aligned E S F halted K now stamp k.holds disks calls l (shown_of w shown) (world-shows w k.owner k.history k.logs F halted disks shown None e refl) in
-    calls-begin E (log_state v a.owner a.history a.logs) a.holds base start stamp log (record {
+    let ok = recovered-ok E D stamp chose.0 (shown_of w shown) chose.1 K.submitted chose.2 in
+    let known = greatest-covered E K.submitted (stamp + 1) past log (parts D) (λ p l. ok p (grind (arith, nat_tests, l))) in
+    calls-begin E (log_state v a.owner a.history a.logs) a.holds base start stamp log replies K.submitted (record {
       positive = k.holds.words.some;
       some_host = host-there D lay;
       logs = anew-logs-are E w shown k;
@@ -305,6 +366,12 @@ anew-calls E w shown k F halted disks K now stamp calls l e lay =
       answers = λ c h. refl;
       over = aligned-recovered E D stamp chose.0 (shown_of w shown) chose.1;
       even = recovered-even E D stamp chose.0 (shown_of w shown) chose.1;
+      calls = ok;
+      rise = known.0;
+      covered = λ p m o part i. known.1 p m o (grind (arith, nat_tests, part)) i;
+      sources = greatest-in-logs E (λ r. (p : ℕ) × (nat_lt p (parts D) ≡ true) × InLog K.submitted (log p) r) log (parts D)
+          (λ p l. let part : nat_lt p (parts D) ≡ true = grind (arith, nat_tests, l) in
+          all-mono _ _ (λ r i. (p, part, i)) (last_replies E p (log p)) (replies-in-log E K.submitted p (log p) (ok p part).asked));
     })
 
 -- ---- a recovery that is stopped
@@ -322,6 +389,7 @@ module _ (E : Database) (w : World) (k : HasLogs w) (F : Firm) (halted : Bool) (
 
   -- what may be chosen before it
   chosen-before : (s : ℕ → Shown) → Shows old s → (L : Transactions) × Aligned E w.deployment stamp L (chosen w.deployment s)
+      × ((p : ℕ) → IsPart old p → CallsOk K.submitted p (chosen w.deployment s p))
   chosen-before = any-aligned E old F halted K now stamp k.holds disks calls later
 
   -- Where it failed as it read, they show nothing that they didn't show before.
@@ -387,10 +455,19 @@ module _ (E : Database) (w : World) (k : HasLogs w) (F : Firm) (halted : Bool) (
 
   -- Either way all that may be chosen is aligned.
   chosen-after : (b : Bool) → is_shown w shown (Some (f, b)) ≡ true → (s : ℕ → Shown) → Shows (left b) s → (L : Transactions) × Aligned E w.deployment stamp L (chosen w.deployment s)
+      × ((p : ℕ) → IsPart old p → CallsOk K.submitted p (chosen w.deployment s p))
   chosen-after false e s h = chosen-before s (read-shows e s h)
   chosen-after true e s h =
       let r = chosen-before (shown_of w shown) (world-shows w k.owner k.history k.logs F halted disks shown (Some (f, true)) e refl) in
-      aligned-again E w.deployment stamp r.0 (shown_of w shown) r.1 (chosen w.deployment s) (λ p q. written-chosen e s h p)
+      let a = aligned-again E w.deployment stamp r.0 (shown_of w shown) r.1 (chosen w.deployment s) (λ p q. written-chosen e s h p) in
+      let ok = recovered-ok E w.deployment stamp r.0 (shown_of w shown) r.1 K.submitted r.2 in (
+        a.0,
+        a.1,
+        λ p q. elim (written-chosen e s h p) [
+          | inl same ↦ subst (CallsOk K.submitted p) (sym same) (r.2 p q)
+          | inr new ↦ subst (CallsOk K.submitted p) (sym new) (ok p q)
+        ],
+      )
 
   -- ---- all else stays
 
@@ -425,6 +502,15 @@ module _ (E : Database) (w : World) (k : HasLogs w) (F : Firm) (halted : Bool) (
       sites = λ c q up. let down = site-stopped E w k F halted disks shown f owner k.history stopped c in absurd (omega (arith, up, down));
       agents = λ h. record {
         initiating = initiating-left h (calls.agents h).initiating;
+        knows = let i = (calls.agents h).knows in record {
+          rise = i.rise;
+          covers = i.covers;
+          decided = i.decided;
+          fresh = i.fresh;
+          from = all-mono _ _ (known-on old (left b) F F onto K.submitted K.heard (w.agents h).initiating.work) (w.agents h).initiating.replies i.from;
+          first = i.first;
+          outcome = i.outcome;
+        };
         waiting = all-mono _ _ (waiting-on E old (left b) F F onto K K (omega arith)) (w.agents h).waiting (calls.agents h).waiting;
       };
       halts = λ _. chosen-after b e;

@@ -1,7 +1,7 @@
 -- The leads of all partitions, the logs of their leaders of the greatest terms, are aligned.
-use Rattle.transaction_laws.proofs.Names.{Aligned, AuthoritativeLog, AuthoritativeOk, Books, Database, Entry, Everywhere, Firm, HeardPart, IsPart, LeadershipFits, List, LogState, LogsHold, Prefix, Transactions, WellFormed, ap, arith, cases_eq, first_stage, inl, inr, led_log, length, prefix-append, prefix-trans, same-some, stage, subst, sym, whole, ℕ, ◌++◌, ◌∙◌, ◌≡◌, ◌≤◌}
+use Rattle.transaction_laws.proofs.Names.{Aligned, AuthoritativeLog, AuthoritativeOk, Books, CallsOk, Database, Entry, Everywhere, Firm, HeardPart, IsPart, LeadershipFits, List, LogState, LogsHold, Prefix, Transactions, WellFormed, ap, arith, cases_eq, first_stage, inl, inr, led_log, length, prefix-append, prefix-trans, same-some, stage, subst, sym, whole, ℕ, ◌++◌, ◌∙◌, ◌≡◌, ◌≤◌}
 use Rattle.transaction_laws.proofs.Kept.{Under, inert-leadership, everywhere-prefix}
-use Rattle.transaction_laws.proofs.Entries.{formed-prefix, prefix-point, under-prefix, under-trans, aligned-under}
+use Rattle.transaction_laws.proofs.Entries.{formed-prefix, ok-prefix, prefix-point, under-prefix, under-trans, aligned-under}
 
 module _ (E : Database) (S : LogState) (F : Firm) (K : Transactions) (now : ℕ) (H : LogsHold S) (B : Books E S F K now) (p : ℕ) (part : IsPart S p) (l : AuthoritativeLog) (k : AuthoritativeOk S.logs p l) where
   abbrev h : HeardPart S F K p
@@ -19,6 +19,10 @@ module _ (E : Database) (S : LogState) (F : Firm) (K : Transactions) (now : ℕ)
       let low = prefix-point (first_stage E p) l.log whole_log within fits.formed in
       let past = fits.past in
       (formed-prefix (first_stage E p) l.log whole_log within fits.formed, omega (arith, low, past))
+
+  authoritative-calls : CallsOk K.submitted p l.log
+  authoritative-calls = subst (CallsOk K.submitted p) (sym k.log) (ok-prefix K.submitted p k.leadership.log (k.leadership.log ++ K.due p l.term) (prefix-append k.leadership.log (K.due p l.term))
+      (B.leaderships p l.term k.leadership part k.led).calls)
 
   authoritative-under : Under l.log (whole S K K.heard p)
   authoritative-under =
@@ -46,3 +50,8 @@ leads-aligned E S F K now H B authoritative k =
       (let h = B.heard.each p q in authoritative-has E S F K now H B p q (authoritative p) (k p) (K.closed p) h.inside h.closed),
     ))
     (λ p x q e. let d = (B.heard.each p q).decided x e in authoritative-has E S F K now H B p q (authoritative p) (k p) (K.decided p) d.0 d.1)
+
+-- Each call stands once in each of them.
+pub leads-calls : (E : Database) (S : LogState) (F : Firm) (K : Transactions) (now : ℕ) → LogsHold S → Books E S F K now → (authoritative : ℕ → AuthoritativeLog) → ((p : ℕ) → AuthoritativeOk S.logs p (authoritative p))
+    → (p : ℕ) → IsPart S p → CallsOk K.submitted p (authoritative p).log
+leads-calls E S F K now H B authoritative k p part = authoritative-calls E S F K now H B p part (authoritative p) (k p)

@@ -29,4 +29,4 @@ answers-firm D i u P term e term_is k is = record {
 
 -- What is claimed of rounds and ends is so as their answers are held.
 pub orders-fit : (E : Database) (p : ℕ) → ClaimsFit E p ToOrders
-orders-fit E p = record { call = λ log call start point body. tt; round = λ log m round body. (body, refl); end = λ log m o. (o, refl) }
+orders-fit E p = record { call = λ log e call start point is. tt; round = λ log m round body. (body, refl); end = λ log m o. (o, refl) }

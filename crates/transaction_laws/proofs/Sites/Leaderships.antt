@@ -1,7 +1,7 @@
 -- A turn of a site, in its effect on the logs of leaders: the term that it leads goes on with calls behind what was due, or it begins.
-use Rattle.transaction_laws.proofs.Names.{Actor, Bool, Database, Deployment, DueOk, Entered, Enters, Entry, Grown, Heads, In, IsSlot, Leadership, Leading, LeadsIn, Letter, List, LogState, Logs, LogsHold, MemberOk, None, Option, Prefix, ReportOk, Reported, Sends, SiteState, Some, Transactions, WordOf, [], after_site, all-at, all-behind, all-first, and_from, and_parts, ap, append-nil, append_assoc, arith, cases_Bool, drop, drop-append_seam, drop_all, entered-start, eq-eqb, eqb-same, eqb-true, false, first_stage, heads-authoritative, here, if-false, if-true, if◌then◌else◌, inl, inr, is_none-none, lacks, leader-is, leadership-entered, leading, leads, leads-from, leads-runs, length, length-append, length-drop, log_at, longest, longest-cases, nil_from_length, none-and-some, nothing_open, open_in, option_map, part, prefix-length, prefixes-order, refl, running-slot, same-some, same-word, site_start, site_term, stage, start_of_slot, subst, sym, term_at, term_in, term_of, true, ℕ, ◌&&◌, ◌++◌, ◌-◌, ◌<◌, ◌==◌, ◌∙◌, ◌≡◌, ◌≤◌, ◌⊎◌}
+use Rattle.transaction_laws.proofs.Names.{Actor, Bool, CallsOk, Submissions, Database, Deployment, DueOk, Entered, Enters, Entry, Grown, Heads, In, IsSlot, Leadership, Leading, LeadsIn, Letter, List, LogState, Logs, LogsHold, MemberOk, None, Option, Prefix, ReportOk, Reported, Sends, SiteState, Some, Transactions, WordOf, [], after_site, all-at, all-behind, all-first, and_from, and_parts, ap, append-nil, append_assoc, arith, cases_Bool, drop, drop-append_seam, drop_all, entered-start, eq-eqb, eqb-same, eqb-true, false, first_stage, heads-authoritative, here, if-false, if-true, if◌then◌else◌, inl, inr, is_none-none, lacks, leader-is, leadership-entered, leading, leads, leads-from, leads-runs, length, length-append, length-drop, log_at, longest, longest-cases, nil_from_length, none-and-some, nothing_open, open_in, option_map, part, prefix-length, prefixes-order, refl, running-slot, same-some, same-word, site_start, site_term, stage, start_of_slot, subst, sym, term_at, term_in, term_of, true, ℕ, ◌&&◌, ◌++◌, ◌-◌, ◌<◌, ◌==◌, ◌∙◌, ◌≡◌, ◌≤◌, ◌⊎◌}
 use Rattle.transaction_laws.proofs.Kept.{IsCallAt, CallsAt, RunsBehind, Moved}
-use Rattle.transaction_laws.proofs.Entries.{calls-only, calls-opened, open_in-stage, stage-append}
+use Rattle.transaction_laws.proofs.Entries.{calls-only, calls-opened, ok-prefix, open_in-stage, stage-append}
 use Rattle.transaction_laws.proofs.Sites.SiteLogs.{SteadyLog, Started, repaired_log}
 
 -- ---- logs
@@ -15,9 +15,9 @@ nothing-opened E p log e = go (stage E p log).opened (sym (open_in-stage E p log
     go (Some x) e = absurd (none-and-some e refl)
 
 -- Behind this log stand calls, and it is a prefix of what a term began with: so calls stand behind that.
-runs-behind : (E : Database) (p stamp : ℕ) (low begun log more : List Entry) → log ≡ low ++ more → Prefix low begun → Prefix begun log → CallsAt stamp more
-    → (more ≡ []) ⊎ (nothing_open low ≡ true) → RunsBehind E p stamp begun log
-runs-behind E p stamp low begun log more is (a, f) (b, g) at room = record {
+runs-behind : (E : Database) (A : Submissions) (p stamp : ℕ) (low begun log more : List Entry) → log ≡ low ++ more → Prefix low begun → Prefix begun log → CallsAt stamp more
+    → (more ≡ []) ⊎ (nothing_open low ≡ true) → (CallsOk A p low → CallsOk A p log) → RunsBehind E A p stamp begun log
+runs-behind E A p stamp low begun log more is (a, f) (b, g) at room once = record {
   calls = b;
   is = g;
   at = all-behind (IsCallAt stamp) a b both;
@@ -26,6 +26,7 @@ runs-behind E p stamp low begun log more is (a, f) (b, g) at room = record {
     | inr closed ↦ inr (subst (λ xs. (stage E p xs).opened ≡ None) (sym f)
         (ap (λ x. x.opened) (stage-append (first_stage E p) low a) ∙ calls-opened (stage E p low) a (calls-only stamp a (all-first (IsCallAt stamp) a b both)) ∙ nothing-opened E p low closed))
   ];
+  once = λ h. once (ok-prefix A p low begun (a, f) h);
 }
   where
     parts : more ≡ a ++ b
@@ -164,18 +165,20 @@ module _ (S : LogState) (H : LogsHold S) (i : ℕ) (ch : Actor → Actor → Lis
     report-log r o = (o.entered.log, o.tail_is ∙ ap (λ n. drop n o.entered.log) (sym o.floor_is), o.position_is, report-low r o)
 
     -- So it begins with the longest of these logs, and perhaps some of the calls that ran then: calls stand behind what it begins with.
-    begins-runs : (E : Database) (stamp : ℕ) → S.logs.leadership (part S i) (term_of k.word) ≡ None → Started D stamp i s u Reports
-        → RunsBehind E (part S i) stamp k.leadership.begun k.leadership.log
-    begins-runs E stamp none st =
+    begins-runs : (E : Database) (A : Submissions) (stamp : ℕ) → S.logs.leadership (part S i) (term_of k.word) ≡ None → Started D A stamp i s u Reports
+        → RunsBehind E A (part S i) stamp k.leadership.begun k.leadership.log
+    begins-runs E A stamp none st =
         let is : k.leadership.log ≡ repaired_log s st.reports ++ st.more = sym log ∙ st.log_is in
         let begun = (J.leaderships (part S i) (term_of k.word) k.leadership k.led).grown in
         let short = repaired-short s st.reports (length k.leadership.begun) (own-low none) (λ r at. report-log r (all-at Reports st.reports st.ok r at)) in
-        runs-behind E (part S i) stamp (repaired_log s st.reports) k.leadership.begun k.leadership.log st.more is
+        runs-behind E A (part S i) stamp (repaired_log s st.reports) k.leadership.begun k.leadership.log st.more is
         (prefixes-order (repaired_log s st.reports) k.leadership.begun k.leadership.log (st.more, is) begun short) begun st.at st.room
+        (λ h. subst (CallsOk A (part S i)) log (st.once h))
 
     -- It goes on with what it took, and calls.
-    goes-runs : (E : Database) (stamp : ℕ) (taken : List Entry) (g : Leadership) → log_at S i ≡ g.log → SteadyLog stamp s u taken → RunsBehind E (part S i) stamp (g.log ++ taken) k.leadership.log
-    goes-runs E stamp taken g is st = record {
+    goes-runs : (E : Database) (A : Submissions) (stamp : ℕ) (taken : List Entry) (g : Leadership) → log_at S i ≡ g.log → SteadyLog A (part S i) stamp s u taken
+        → RunsBehind E A (part S i) stamp (g.log ++ taken) k.leadership.log
+    goes-runs E A stamp taken g is st = record {
       calls = st.more;
       is = sym log ∙ st.log_is ∙ ap (λ xs. (xs ++ taken) ++ st.more) is;
       at = st.at;
@@ -183,6 +186,7 @@ module _ (S : LogState) (H : LogsHold S) (i : ℕ) (ch : Actor → Actor → Lis
         | inl none ↦ inl none
         | inr closed ↦ inr (nothing-opened E (part S i) (g.log ++ taken) (subst (λ xs. nothing_open (xs ++ taken) ≡ true) is closed))
       ];
+      once = λ h. subst (CallsOk A (part S i)) log (st.once (subst (λ xs. CallsOk A (part S i) (xs ++ taken)) (sym is) h));
     }
 
 -- ---- what is due after the turn
@@ -245,9 +249,9 @@ module _ (E : Database) (S : LogState) (H : LogsHold S) (K : Transactions) (due 
     (on : (u.start ≡ site_start S i) ⊎ (u.view ≡ None)) (taken : List Entry) where
   -- What must be so of the site's own turn.
   pub record OwnTurn : Type 0 where
-    pub steady : leads S.words.deployment i (S.sites i) ≡ true → leads S.words.deployment i u ≡ true → u.view ≡ (S.sites i).view → SteadyLog stamp (S.sites i) u taken
+    pub steady : leads S.words.deployment i (S.sites i) ≡ true → leads S.words.deployment i u ≡ true → u.view ≡ (S.sites i).view → SteadyLog K.submitted (part S i) stamp (S.sites i) u taken
     pub starts : leads S.words.deployment i u ≡ true → (leads S.words.deployment i (S.sites i) ≡ true → u.view ≡ (S.sites i).view → ⊥)
-        → Started S.words.deployment stamp i (S.sites i) u (λ r. ReportOk S (part S i) r.slot (site_term u) r.position r.floor r.tail)
+        → Started S.words.deployment K.submitted stamp i (S.sites i) u (λ r. ReportOk S (part S i) r.slot (site_term u) r.position r.floor r.tail)
     -- what it took was due
     pub was_due : leads S.words.deployment i (S.sites i) ≡ true → leads S.words.deployment i u ≡ true → u.view ≡ (S.sites i).view
         → (taken ≡ []) ⊎ (K.due (part S i) (term_at S i) ≡ taken)
@@ -260,7 +264,7 @@ module _ (E : Database) (S : LogState) (H : LogsHold S) (K : Transactions) (due 
     after-due = due_after S K i u taken
 
     abbrev MovedHere : ℕ → ℕ → Type 0
-    MovedHere p t = Moved E S.logs G K.due after-due stamp p t
+    MovedHere p t = Moved E K.submitted S.logs G K.due after-due stamp p t
 
     module _ (authoritative : leads S.words.deployment i u ≡ true) where
       abbrev l : Leading (next S H i ch u out G) i
@@ -285,7 +289,7 @@ module _ (E : Database) (S : LogState) (H : LogsHold S) (K : Transactions) (due 
             taken = taken;
             due_is = subst (λ t. K.due (part S i) t ≡ taken ++ after-due (part S i) t) before
                 (taken-first (K.due (part S i) (term_at S i)) taken (own.was_due b.0 authoritative same) ∙ ap (λ xs. taken ++ xs) (sym (due-here S K i u taken authoritative (term-is ∙ sym before))));
-            runs = goes-runs S H i ch u out G J enters on authoritative E stamp taken g b.2 (own.steady b.0 authoritative same);
+            runs = goes-runs S H i ch u out G J enters on authoritative E K.submitted stamp taken g b.2 (own.steady b.0 authoritative same);
           }))
 
       -- or it begins
@@ -296,7 +300,7 @@ module _ (E : Database) (S : LogState) (H : LogsHold S) (K : Transactions) (due 
         led = l.led;
         before = none-due (part S i) (term_of l.word) none;
         after = due-none S K i u taken (part S i) (term_of l.word) (none-due (part S i) (term_of l.word) none);
-        runs = begins-runs S H i ch u out G J enters on authoritative E stamp none (subst (λ t. Started S.words.deployment stamp i (S.sites i) u
+        runs = begins-runs S H i ch u out G J enters on authoritative E K.submitted stamp none (subst (λ t. Started S.words.deployment K.submitted stamp i (S.sites i) u
             (λ r. ReportOk S (part S i) r.slot t r.position r.floor r.tail)) term-is (own.starts authoritative apart));
       }))
         where

@@ -1,7 +1,7 @@
 -- What a turn of a site leaves of what a leader counts.
 use Rattle.volt_wire.specs.declared.message.Msg.TheVariants as msg
 use Rattle.transaction_laws.proofs.Names.{Actor, Agent, AllByRecursion, Bool, Comes, Database, Deployment, DiskFails, DisksShow, Environment, Joiner, Joining, Letter, List, Membership, NoFault, NoMemory, None, Option, Over, SiteState, Some, StateSaying, StateSteps, Taken, Wrote, [], acked_in, acknowledged, after_sync, after_sync-walk, all-append, ap, append_assoc, arith, arrival, becomes, begins_at, copy_acks, counts, eqb-true, false, firm_now, floor_now, if-true, if◌then◌else◌, in_new_term, inl, inr, is_leader, leader-view, leads, leads-from, leads-parts, least, least_of, least_of-below, length, lesser, lesser-parts, map, map-append, max, min, none-and-some, not-both, other_copies, over-moves, over-settles, over-tells, own_ack, refl, sends_firm, settled-walk, settled_turn, site_term, site_turn, stays_joiner, subst, sym, sync_turn, syncs, takes_asks, term_of, true, with_others, written_site, wrote, ℕ, ◌++◌, ◌<◌, ◌==◌, ◌∙◌, ◌∷◌, ◌≡◌, ◌≤◌}
-use Rattle.transaction_laws.proofs.Sites.SiteWalk.{WaitsQuietly, AnyReport, any-report, any-reports, asks-taken, asks-view, Walked, StopsOrBegins, NothingSeen, GoesOnSame, GoesOnNew, walked}
+use Rattle.transaction_laws.proofs.Sites.SiteWalk.{WaitsQuietly, AnyReport, any-report, any-reports, AnyCall, any-call, any-calls, any-waiting, asks-taken, asks-view, Walked, StopsOrBegins, NothingSeen, GoesOnSame, GoesOnNew, walked}
 use Rattle.transaction_laws.proofs.Sites.SiteLogs.{stopped-not-leads, sync-steady}
 
 -- ---- what is shown
@@ -122,10 +122,10 @@ module _ (D : Deployment) (i : ℕ) where
     };
   }
 
-  reckons-steps : (stamp : ℕ) → StateSteps D stamp i AnyReport (Reckons D i)
-  reckons-steps stamp = record {
+  reckons-steps : (E : Database) (stamp : ℕ) → StateSteps E D stamp i AnyReport AnyCall (Reckons D i)
+  reckons-steps E stamp = record {
     settles = reckons-settles;
-    called = λ s authoritative clear call body. record { same = refl; view = refl; joiners = refl; repaired = λ e. e; marked = λ _ x. x; counted = λ _ x c. c };
+    called = λ s authoritative clear call client body. record { same = refl; view = refl; joiners = refl; repaired = λ e. e; marked = λ _ x. x; counted = λ _ x c. c };
     begun = λ s authoritative un all. record { same = refl; view = refl; joiners = refl; repaired = λ e. un; marked = λ _ x m. refl; counted = λ _ x c. c };
     reported = λ s r p. record { same = refl; view = refl; joiners = refl; repaired = λ e. e; marked = λ _ x. x; counted = λ _ x c. c };
     noted = λ s idle acks joiners e. record {
@@ -224,9 +224,9 @@ module _ (E : Database) (D : Deployment) (stamp i : ℕ) (s : SiteState) (from :
   u = (site_turn E D stamp i s from l o).state
 
   goes : (arrival s.start (site_term s) l ≡ Taken → Comes D i s from l) → AllByRecursion WaitsQuietly s.waiting → Walked E D i (Reckons D i) s from l u
-  goes comes waiting = walked E D stamp i AnyReport (Reckons D i) (reckons-steps D i stamp)
-      (λ s ws. record { same = refl; view = refl; joiners = refl; repaired = λ e. e; marked = λ _ x. x; counted = λ _ x c. c }) s waiting from l o
-      comes (λ _. any-report from l) (any-reports (site_term u) s.waiting)
+  goes comes waiting = walked E D stamp i AnyReport AnyCall (Reckons D i) (reckons-steps D i E stamp)
+      (λ s ws. record { same = refl; view = refl; joiners = refl; repaired = λ e. e; marked = λ _ x. x; counted = λ _ x c. c }) s waiting (any-calls s.calls) (any-waiting s.waiting) from l o
+      comes (λ _. any-report from l) (λ _. any-call from l) (any-reports (site_term u) s.waiting)
 
   -- who leads at the end did so before a joiner was taken
   led-before : (b v : SiteState) → Reckons D i b v → u ≡ (takes_asks E D i v).state → leads D i u ≡ true → is_leader D i b ≡ true
@@ -299,10 +299,10 @@ module _ (E : Database) (D : Deployment) (i : ℕ) (s : SiteState) where
   v = (settled_turn E D i m).state
 
   said : Reckons D i b m
-  said = after_sync-walk D i (Over (Reckons D i)) (over-settles D i (Reckons D i) (reckons-settles D i)) b
+  said = (after_sync-walk D i (Over AnyCall (Reckons D i)) (over-settles D i AnyCall (Reckons D i) (reckons-settles D i)) b (any-calls b.calls)).0
 
   then : Reckons D i m v
-  then = settled-walk E D i (Over (Reckons D i)) (over-moves D i (Reckons D i) (reckons-settles D i)) (over-tells D i (Reckons D i) (reckons-settles D i) E) m
+  then = (settled-walk E D i (Over AnyCall (Reckons D i)) (over-moves D i AnyCall (Reckons D i) (reckons-settles D i)) (over-tells D i AnyCall (Reckons D i) (reckons-settles D i) E) m (any-calls m.calls)).0
 
   is-written : Wrote s b
   is-written = wrote s

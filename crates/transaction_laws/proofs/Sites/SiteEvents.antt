@@ -1,5 +1,5 @@
 -- A site takes a message, or syncs: all that holds of transactions holds after it.
-use Rattle.transaction_laws.proofs.Names.{Actor, Agent, AllByRecursion, Bool, CallsHold, Database, DisksGo, DisksHold, Enters, Entry, Environment, Firm, Grown, IsSlot, Leading, Letter, List, LogState, Logs, LogsHold, NoWord, None, PlainWaiting, Raised, Site, SiteCalls, SiteState, ToOrders, ToSiteOk, Transactions, WaitsPlain, [], after_site, all-at, all-from, all-mono, append-nil, fewer, inl, leading, leads, length, log_at, no-log, part, plain-word, refl, site_popped, site_start, site_turn, site_turn-answers, some-start, sym, sync-waits, sync_turn, sync_turn-answers, true, turn-waits, waits-plain, ℕ, ◌++◌, ◌+◌, ◌<◌, ◌∙◌, ◌∷◌, ◌≡◌, ◌⊎◌}
+use Rattle.transaction_laws.proofs.Names.{Actor, Agent, AllBefore, AllByRecursion, AskedIn, CallsOk, SiteAsks, subst, Bool, CallsHold, Database, DisksGo, DisksHold, Enters, Entry, Environment, Firm, Grown, IsSlot, Leading, Letter, List, LogState, Logs, LogsHold, NoWord, None, PlainWaiting, Raised, Site, SiteCalls, SiteState, ToOrders, ToSiteOk, Transactions, WaitsPlain, [], after_site, all-at, all-from, all-mono, append-nil, fewer, inl, leading, leads, length, log_at, no-log, part, plain-word, refl, site_popped, site_start, site_turn, site_turn-answers, some-start, sym, sync-waits, sync_turn, sync_turn-answers, true, turn-waits, waits-plain, ℕ, ◌++◌, ◌+◌, ◌<◌, ◌∙◌, ◌∷◌, ◌≡◌, ◌⊎◌}
 use Rattle.transaction_laws.proofs.Kept.{with_due}
 use Rattle.transaction_laws.proofs.Initiators.{LaidOut}
 use Rattle.transaction_laws.proofs.Sites.Leaderships.{OwnTurn, due_after, runs}
@@ -26,7 +26,8 @@ module _ (E : Database) (S : LogState) (H : LogsHold S) (F : Firm) (halted : Boo
 
   -- ---- it takes a message
 
-  module _ (from : Actor) (l : Letter) (ls : List Letter) (is : S.words.channel from (Site i) ≡ l ∷ ls) (o : Environment) (G : Logs) (M : Firm) where
+  module _ (from : Actor) (l : Letter) (ls : List Letter) (is : S.words.channel from (Site i) ≡ l ∷ ls) (past : AllBefore K.submitted (now + 1))
+      (asks : SiteAsks S.words.deployment K.submitted i (S.sites i)) (asked : AskedIn S.words.deployment K.submitted from (Site i) l) (o : Environment) (G : Logs) (M : Firm) where
     abbrev u : SiteState
     u = (site_turn E S.words.deployment (now + 1) i (S.sites i) from l o).state
 
@@ -46,8 +47,8 @@ module _ (E : Database) (S : LogState) (H : LogsHold S) (F : Firm) (halted : Boo
 
       own : OwnTurn E S H K C.books.due (now + 1) i ch u out G J grown enters on taken
       own = record {
-        steady = λ was authoritative view. let up = runs S H i ch u out G J enters on authoritative in given-steady E (now + 1) S H i slot up from l ls is (before up).waiting o was authoritative view;
-        starts = λ authoritative anew. let up = runs S H i ch u out G J enters on authoritative in given-starts E (now + 1) S H i slot up from l ls is (before up).waiting o authoritative anew;
+        steady = λ was authoritative view. let up = runs S H i ch u out G J enters on authoritative in given-steady E (now + 1) S H i slot up from l ls is (before up).waiting o K.submitted (past, asks, asked) was authoritative view;
+        starts = λ authoritative anew. let up = runs S H i ch u out G J enters on authoritative in given-starts E (now + 1) S H i slot up from l ls is (before up).waiting o K.submitted (past, asks, asked) authoritative anew;
         was_due = λ was authoritative view. let up = runs S H i ch u out G J enters on authoritative in
             taken-due S H K C.books.due i slot under-way (before up) (leading S i H up was) from l ls is;
       }
@@ -100,6 +101,7 @@ module _ (E : Database) (S : LogState) (H : LogsHold S) (F : Firm) (halted : Boo
           log_is = (still-leads authoritative).0 ∙ sym (append-nil (log_at S i ++ []) ∙ append-nil (log_at S i));
           at = tt;
           room = inl refl;
+          once = subst (CallsOk K.submitted (part S i)) (append-nil (log_at S i) ∙ sym (still-leads authoritative).0);
         };
         starts = λ authoritative anew. let s = still-leads authoritative in absurd (anew s.2 s.1);
         was_due = λ was authoritative view. inl refl;

@@ -1,7 +1,7 @@
 -- What the laws of logs and of disks give of a message that a site takes, and of those that wait at it.
 use Rattle.volt_wire.specs.declared.message.Msg.TheVariants as msg
-use Rattle.transaction_laws.proofs.Names.{Actor, Agent, AllByRecursion, Blocks, Bool, Comes, Database, DisksHold, Environment, Firm, In, IsSlot, Joining, KeepsWord, Letter, List, LogState, LogsHold, Membership, Msg, NoWord, None, Option, ReportOf, ReportOk, Reported, Site, SiteLetterOk, SiteState, SiteWaitingFrom, SiteWaitingOk, Some, StreamDisk, Streamed, Taken, Turn, Waiting, WaitsPlain, [], all-at, all-both, all-from, all-mono, anew, ap, arith, arrival, between, cases_Bool, false, for-true, handler-keeps, inl, inr, is-leader, is_leader, later-term, leader-follows-none, leader-view, leads, length, line, flat-each, line_of, line_in, none-and-some, not-both, part, refl, same-some, site_handler, site_start, site_term, site_turn, site_turn-cases, stays_joiner, subst, sym, taken-here, term_at, term_in, term_of, true, unstreamed, whole-keeps, whole_turn, word-based, word-unnamed, ℕ, ◌<◌, ◌∙◌, ◌∷◌, ◌≡◌, ◌≤◌}
-use Rattle.transaction_laws.proofs.Sites.SiteWalk.{WaitsQuietly, quiet-word, waits-quietly, taken_by}
+use Rattle.transaction_laws.proofs.Names.{Actor, Agent, AllBefore, AllByRecursion, AskedCall, AskedIn, CallAsked, CallOf, Deployment, MayRun, SiteAsks, Submissions, WaitingAsked, part_of_slot, Blocks, Bool, Comes, Database, DisksHold, Environment, Firm, In, IsSlot, Joining, KeepsWord, Letter, List, LogState, LogsHold, Membership, Msg, NoWord, None, Option, ReportOf, ReportOk, Reported, Site, SiteLetterOk, SiteState, SiteWaitingFrom, SiteWaitingOk, Some, StreamDisk, Streamed, Taken, Turn, Waiting, WaitsPlain, [], all-at, all-both, all-from, all-mono, anew, ap, arith, arrival, between, cases_Bool, false, for-true, handler-keeps, inl, inr, is-leader, is_leader, later-term, leader-follows-none, leader-view, leads, length, line, flat-each, line_of, line_in, none-and-some, not-both, part, refl, same-some, site_handler, site_start, site_term, site_turn, site_turn-cases, stays_joiner, subst, sym, taken-here, term_at, term_in, term_of, true, unstreamed, whole-keeps, whole_turn, word-based, word-unnamed, ℕ, ◌<◌, ◌∙◌, ◌∷◌, ◌≡◌, ◌≤◌}
+use Rattle.transaction_laws.proofs.Sites.SiteWalk.{WaitsCall, WaitsQuietly, quiet-word, waits-quietly, taken_by}
 use Rattle.transaction_laws.proofs.Sites.SiteLogs.{SteadyLog, Started, stopped-not-leads, site-steady, site-starts}
 use Rattle.transaction_laws.proofs.Sites.SiteCounts.{Counted, AboveMark, Unrepaired, site-counted, site-joined, site-unrepaired}
 
@@ -146,6 +146,20 @@ module _ (S : LogState) (H : LogsHold S) (i : ℕ) (slot : IsSlot S i) (up : 0 <
         go (Site c) e = report-from c l ls e take
         go from e = tt
 
+-- ---- calls
+
+-- A call that was submitted before may run.
+may-run : (A : Submissions) (stamp p : ℕ) → AllBefore A stamp → (c : AskedCall) → CallAsked A p c → MayRun A p stamp c
+may-run A stamp p past c k = let r = past c.call _ k.is in record { some = r.0; asked = record { at = k.at; is = k.is; before = r.1 } }
+
+may-come : (D : Deployment) (A : Submissions) (stamp i : ℕ) → AllBefore A stamp → (from : Actor) (l : Letter) → AskedIn D A from (Site i) l → CallOf (MayRun A (part_of_slot D i) stamp) from l
+may-come D A stamp i past (Agent h) l k =
+    (elim l.body as (λ b. AskedIn D A (Agent h) (Site i) (record l { body = b }) → CallOf (MayRun A (part_of_slot D i) stamp) (Agent h) (record l { body = b })) [
+      | msg.SpCall call start client body ↦ λ k. may-run A stamp (part_of_slot D i) past (record { call = call; client = client; host = h; start = start; body = body }) k
+      | b ↦ λ k. tt
+    ]) k
+may-come D A stamp i past from l k = tt
+
 -- ---- the turn
 
 module _ (E : Database) (stamp : ℕ) (S : LogState) (H : LogsHold S) (i : ℕ) (slot : IsSlot S i) (up : 0 < site_start S i) (from : Actor) (l : Letter) (ls : List Letter)
@@ -160,9 +174,20 @@ module _ (E : Database) (stamp : ℕ) (S : LogState) (H : LogsHold S) (i : ℕ) 
   comes : arrival (site_start S i) (term_at S i) l ≡ Taken → Comes S.words.deployment i (S.sites i) from l
   comes = site-comes S H i slot up from l ls is
 
-  pub given-steady : leads S.words.deployment i (S.sites i) ≡ true → leads S.words.deployment i u ≡ true → u.view ≡ (S.sites i).view
-      → SteadyLog stamp (S.sites i) u (taken_by (S.sites i) from l)
-  given-steady = site-steady E S.words.deployment stamp i (S.sites i) from l o up comes waits
+  -- what is known of the calls that wait, and of those that come
+  abbrev Asks : Submissions → Type 0
+  Asks A = AllBefore A stamp × SiteAsks S.words.deployment A i (S.sites i) × AskedIn S.words.deployment A from (Site i) l
+
+  calls-may : (A : Submissions) → Asks A → AllByRecursion (MayRun A (part S i) stamp) (S.sites i).calls
+  calls-may A k = all-mono (CallAsked A (part S i)) (MayRun A (part S i) stamp) (may-run A stamp (part S i) k.0) (S.sites i).calls k.1.calls
+
+  waiting-may : (A : Submissions) → Asks A → AllByRecursion (WaitsCall (MayRun A (part S i) stamp)) (S.sites i).waiting
+  waiting-may A k = all-mono (WaitingAsked S.words.deployment A (Site i)) (WaitsCall (MayRun A (part S i) stamp)) (λ x. may-come S.words.deployment A stamp i k.0 x.from x.letter)
+      (S.sites i).waiting k.1.waiting
+
+  pub given-steady : (A : Submissions) → Asks A → leads S.words.deployment i (S.sites i) ≡ true → leads S.words.deployment i u ≡ true → u.view ≡ (S.sites i).view
+      → SteadyLog A (part S i) stamp (S.sites i) u (taken_by (S.sites i) from l)
+  given-steady A k = site-steady E S.words.deployment A stamp i (S.sites i) from l o up comes waits (calls-may A k) (λ _. may-come S.words.deployment A stamp i k.0 from l k.2) (waiting-may A k)
 
   -- a message from a site leaves it in its word, or stops it
   site-same-word : leads S.words.deployment i u ≡ true → (c : ℕ) → from ≡ Site c → u.view ≡ (S.sites i).view
@@ -189,9 +214,10 @@ module _ (E : Database) (stamp : ℕ) (S : LogState) (H : LogsHold S) (i : ℕ) 
       go (Site c) same k = subst (λ n. ReportOf (ReportsOk S (part S i) n) (Site c) l) (sym (ap term_in (same c refl))) k
       go from same k = tt
 
-  pub given-starts : leads S.words.deployment i u ≡ true → (leads S.words.deployment i (S.sites i) ≡ true → u.view ≡ (S.sites i).view → ⊥)
-      → Started S.words.deployment stamp i (S.sites i) u (ReportsOk S (part S i) (site_term u))
-  given-starts led anew = site-starts E S.words.deployment stamp i (S.sites i) from l o (ReportsOk S (part S i) (site_term u)) up comes waits led anew
+  pub given-starts : (A : Submissions) → Asks A → leads S.words.deployment i u ≡ true → (leads S.words.deployment i (S.sites i) ≡ true → u.view ≡ (S.sites i).view → ⊥)
+      → Started S.words.deployment A stamp i (S.sites i) u (ReportsOk S (part S i) (site_term u))
+  given-starts A k led anew = site-starts E S.words.deployment A stamp i (S.sites i) from l o (ReportsOk S (part S i) (site_term u)) up comes waits
+      (calls-may A k) (λ _. may-come S.words.deployment A stamp i k.0 from l k.2) (waiting-may A k) led anew
       (λ same. subst (λ n. AllByRecursion (ReportsOk S (part S i) n) (S.sites i).reports) (sym (ap term_in same)) ((H.sites i).keeps up).reports)
       (own-report led) (waiting-reports S H i up (site_term u))
 

@@ -1,6 +1,6 @@
 -- What a site says to agents, after its turn: its answers are of entries that are firm, and how its partition stands is as its term began.
 use Rattle.volt_wire.specs.declared.message.Msg.TheVariants as msg
-use Rattle.transaction_laws.proofs.Names.{AllByRecursion, AnswerOk, Books, Bool, CountsOk, Database, Deployment, DisksHold, Done, Entry, EntryAt, Everywhere, Firm, Frag, IsPart, IsSlot, Joiner, Leading, Letter, List, LogState, LogsHold, MemberDisk, None, OnlyCalls, Option, Outcome, Prefix, SentAnswer, SiteState, Some, StateOk, Stood, ToOrders, Top, Transactions, [], acked_in, acknowledged, all-append, and_parts, ap, arith, copy_acks, drop, eqb-true, false, first_stage, has_all_on_disk, if◌then◌else◌, inr, is_some_of, is_some_of-is, last_done, leading, leads, leads-runs, least, length, lesser, list_all, map, max, none-and-some, open_in, option_map, other_copies, own_ack, part, prefix-length, prefix-rest, refl, site_start, site_term, some-term, stage, standing, subst, sym, term_in, term_of, true, ℕ, ◌++◌, ◌<◌, ◌==◌, ◌∙◌, ◌∷◌, ◌≡◌, ◌≤◌}
+use Rattle.transaction_laws.proofs.Names.{AllByRecursion, AnswerOk, Books, Bool, CountsOk, Database, Deployment, DisksHold, Done, Entry, EntryAt, Everywhere, Firm, Frag, IsPart, IsSlot, Joiner, LastReply, Leading, Letter, List, LogState, LogsHold, MemberDisk, None, OnlyCalls, Option, Outcome, Prefix, SentAnswer, SiteState, Some, StateOk, Stood, ToOrders, Top, Transactions, [], acked_in, acknowledged, all-append, and_parts, ap, arith, copy_acks, drop, eqb-true, false, first_stage, has_all_on_disk, heard_of, if◌then◌else◌, inr, is_some_of, is_some_of-is, last_done, last_replies, leading, leads, leads-runs, least, length, lesser, list_all, map, max, none-and-some, open_in, option_map, other_copies, own_ack, part, prefix-length, prefix-refl, prefix-rest, refl, site_start, site_term, some-term, stage, standing, subst, sym, term_in, term_of, true, ℕ, ◌++◌, ◌<◌, ◌==◌, ◌∙◌, ◌∷◌, ◌≡◌, ◌≤◌}
 use Rattle.transaction_laws.proofs.Entries.{calls-done, calls-opened, done-append, open_in-stage, stage-append}
 use Rattle.transaction_laws.proofs.Sites.Answers.{AnswersFirm, answers-firm}
 
@@ -38,10 +38,24 @@ joined-low low (j ∷ js) h = (omega (arith, h.0), joined-low low js h.1)
 
 -- ---- calls
 
--- How a log stands doesn't change by calls behind it.
-standing-calls : (E : Database) (p : ℕ) (prefix log : List Entry) → Prefix prefix log → OnlyCalls (drop (length prefix) log)
-    → standing (open_in prefix) (last_done E p prefix) ≡ standing (open_in log) (last_done E p log)
-standing-calls E p prefix log f calls = ap (λ o. standing o (last_done E p prefix)) opened ∙ ap (standing (open_in log)) done
+-- What is told of a transaction doesn't go by the replies that are told with it.
+standing-told : (now : Option ℕ) (last : Option (ℕ × Outcome)) (had replies : List LastReply) (m : ℕ) (is_open : Bool) (outcome : Option Outcome)
+    → standing now last had ≡ msg.MpState m is_open outcome replies → standing now last replies ≡ msg.MpState m is_open outcome replies
+standing-told (Some n) last had replies m is_open outcome e = cc
+standing-told None None had replies m is_open outcome e = cc
+standing-told None (Some last) had replies m is_open outcome e = cc
+
+-- These are the replies that it had.
+standing-replies : (now : Option ℕ) (last : Option (ℕ × Outcome)) (had replies : List LastReply) (m : ℕ) (is_open : Bool) (outcome : Option Outcome)
+    → standing now last had ≡ msg.MpState m is_open outcome replies → replies ≡ had
+standing-replies (Some n) last had replies m is_open outcome e = cc
+standing-replies None None had replies m is_open outcome e = cc
+standing-replies None (Some last) had replies m is_open outcome e = cc
+
+-- Nor does that change by calls behind it.
+standing-calls : (E : Database) (p : ℕ) (prefix log : List Entry) (replies : List LastReply) → Prefix prefix log → OnlyCalls (drop (length prefix) log)
+    → standing (open_in prefix) (last_done E p prefix) replies ≡ standing (open_in log) (last_done E p log) replies
+standing-calls E p prefix log replies f calls = ap (λ o. standing o (last_done E p prefix) replies) opened ∙ ap (λ last. standing (open_in log) last replies) done
   where
     rest : List Entry
     rest = drop (length prefix) log
@@ -129,17 +143,22 @@ module _ (E : Database) (T : LogState) (J : LogsHold T) (M : Firm) (halted : Boo
       own-top : Top T (part T i) (term_of k.word) 0
       own-top = record { slot = i; is_slot = slot; part_is = refl; all = rw disk.shows (inr (own-mark ∙ term-is, omega arith), tt) }
 
-      told-state : (m : ℕ) (is_open : Bool) (outcome : Option Outcome) → standing (open_in s.log) (last_done E (part T i) s.log) ≡ msg.MpState m is_open outcome
-          → L.heard < term_of k.word → StateOk E T M (part T i) (term_of k.word) m is_open outcome
-      told-state m is_open outcome told above = record {
+      told-state : (m : ℕ) (is_open : Bool) (outcome : Option Outcome) (replies : List LastReply)
+          → standing (open_in s.log) (last_done E (part T i) s.log) (last_replies E (part T i) s.log) ≡ msg.MpState m is_open outcome replies → L.heard < term_of k.word
+          → StateOk E T M (term_of k.word) (heard_of (part T i) m is_open outcome replies)
+      told-state m is_open outcome replies told above = record {
         part = inside;
         leadership = k.leadership;
         led = k.led;
-        told = standing-calls E (part T i) k.leadership.begun k.leadership.log (J.leaderships (part T i) (term_of k.word) k.leadership k.led).grown
+        told = standing-calls E (part T i) k.leadership.begun k.leadership.log replies (J.leaderships (part T i) (term_of k.word) k.leadership k.led).grown
             ((books.leaderships (part T i) (term_of k.word) k.leadership inside k.led).unheard above)
-            ∙ ap (λ xs. standing (open_in xs) (last_done E (part T i) xs)) (sym k.log) ∙ told;
+            ∙ ap (λ xs. standing (open_in xs) (last_done E (part T i) xs) replies) (sym k.log) ∙ standing-told (open_in s.log) (last_done E (part T i) s.log) (last_replies E (part T i) s.log) replies m is_open outcome told;
         everywhere = everywhere (length k.leadership.begun) begun-firm;
         top = own-top;
+        log = s.log;
+        behind = subst (Prefix k.leadership.begun) (sym k.log) (J.leaderships (part T i) (term_of k.word) k.leadership k.led).grown;
+        within = subst (λ xs. Prefix xs k.leadership.log) (sym k.log) (prefix-refl k.leadership.log);
+        replies_are = standing-replies (open_in s.log) (last_done E (part T i) s.log) (last_replies E (part T i) s.log) replies m is_open outcome told;
       }
 
   -- What it says is so.
@@ -151,10 +170,11 @@ module _ (E : Database) (T : LogState) (J : LogsHold T) (M : Firm) (halted : Boo
     | msg.Finished m ↦ λ a.
         let k = a.answered refl in let c = k.stands.here.claim in let e = Done m c.0 in
         let r = answer-stood k.leads l.term e (answers-firm D i s (ToOrders (msg.Finished m)) l.term e a.to_initiator k c.1) in (r.0, (c.0, r.1))
-    | msg.MpState m is_open outcome ↦ λ sent. let a = sent.to_initiator in (
+    | msg.MpState m is_open outcome replies ↦ λ sent. let a = sent.to_initiator in (
       some a.leads l.term a.term_is,
       λ above. let e = a.term_is ∙ term-is a.leads in
-          subst (λ t. StateOk E T M (part T i) t m is_open outcome) (sym e) (told-state a.leads a.on_disk m is_open outcome a.told (omega (arith, above, e))),
+          subst (λ t. StateOk E T M t (heard_of (part T i) m is_open outcome replies)) (sym e)
+          (told-state a.leads a.on_disk m is_open outcome replies a.told (omega (arith, above, e))),
     )
     | b ↦ λ a. tt
   ]

@@ -1,5 +1,5 @@
 -- What holds of transactions, after a turn of a site: from what is so of the site's own turn.
-use Rattle.transaction_laws.proofs.Names.{Actor, Agent, AgentCalls, Aligned, AllByRecursion, AnswerOk, Books, Bool, CallsHold, CountsOk, Database, Deployment, DisksHold, Enters, Entry, Firm, Grown, HoldsAnswers, In, IsPart, IsSlot, Leadership, Leading, LeadsIn, Letter, List, LogState, Logs, LogsHold, Membership, None, Option, Raised, Sends, SentAnswer, Shown, Shows, Site, SiteCalls, SiteState, Some, ToOrders, ToSiteOk, Top, Transactions, TurnAnswers, [], all-append, all-at, all-from, all-mono, ap, arith, cases_eq, chosen, drop, false, here, if◌then◌else◌, in-none, initiator, inl, inr, leader, leader-is, leader-view, leading, leads, leads-from, leads-runs, length, log_at, max, none-and-some, orders, part, prefix-length, refl, same-some, same-word, sent-either, shown_at, site_start, site_term, subst, sym, term_at, term_in, term_of, there, true, ℕ, ◌+◌, ◌<◌, ◌∙◌, ◌≡◌, ◌≤◌, ◌⊎◌}
+use Rattle.transaction_laws.proofs.Names.{Actor, Agent, AgentCalls, Aligned, AllByRecursion, AnswerOk, Books, Bool, CallsHold, CallsOk, CountsOk, Database, Deployment, DisksHold, Enters, Entry, Firm, Grown, HoldsAnswers, In, IsPart, IsSlot, Leadership, Leading, LeadsIn, Letter, List, LogState, Logs, LogsHold, Membership, None, Option, Raised, Sends, SentAnswer, Shown, Shows, Site, SiteCalls, SiteState, Some, ToOrders, ToSiteOk, Top, Transactions, TurnAnswers, [], all-append, all-at, all-from, all-mono, ap, arith, cases_eq, chosen, drop, false, here, if◌then◌else◌, in-none, initiator, inl, inr, leader, leader-is, leader-view, leading, leads, leads-from, leads-runs, length, log_at, max, none-and-some, orders, part, prefix-length, refl, same-some, same-word, sent-either, shown_at, site_start, site_term, subst, sym, term_at, term_in, term_of, there, true, ℕ, ◌+◌, ◌<◌, ◌∙◌, ◌≡◌, ◌≤◌, ◌⊎◌}
 use Rattle.transaction_laws.proofs.Kept.{Moved, Onto, with_due, aligned-later, answer-on, books-moved, to_site-on, agent-moved, keeps-same}
 use Rattle.transaction_laws.proofs.Initiators.{LaidOut, slot-part}
 use Rattle.transaction_laws.proofs.Sites.Answers.{NoOrderWaits}
@@ -56,7 +56,7 @@ module _ (E : Database) (S : LogState) (H : LogsHold S) (F M : Firm) (halted : B
     abbrev L : Transactions
     L = with_due K due
 
-    moved : (p t : ℕ) → IsPart S p → Moved E S.logs T.logs K.due due (now + 1) p t
+    moved : (p t : ℕ) → IsPart S p → Moved E K.submitted S.logs T.logs K.due due (now + 1) p t
     moved p t _ = all-moved E S H K C.books.due (now + 1) i ch u out G J grown enters on taken facts.own p t
 
     books : Books E T M L (now + 1)
@@ -254,9 +254,10 @@ module _ (E : Database) (S : LogState) (H : LogsHold S) (F M : Firm) (halted : B
 
       module _ (still : halted ≡ true → (c : ℕ) (y : Shown) → In y (shown_at T c) → In y (shown_at S c)) where
         choices : halted ≡ true → (shown : ℕ → Shown) → Shows T shown → (N : Transactions) × Aligned E D (now + 1) N (chosen D shown)
+            × ((p : ℕ) → IsPart T p → CallsOk L.submitted p (chosen D shown p))
         choices e shown k =
             let r = C.halts e shown (record { one = λ c is. still e c (shown c) (k.one c is); none = k.none }) in
-            (r.0, aligned-later E D now (now + 1) (omega arith) r.0 (chosen D shown) r.1)
+            (r.0, aligned-later E D now (now + 1) (omega arith) r.0 (chosen D shown) r.1, r.2)
 
         -- All that holds of transactions holds after the turn.
         pub turned-calls : CallsHold E T M halted L (now + 1)

@@ -10,7 +10,7 @@ returns-clause-site g c = λ s h.
     let new : LogEnd = record { end = c.apply.new.self.log.end; on_disk = c.apply.new.self.log.on_disk; waiting = c.push_back.new.self } in
     let applied = c.in_ok-reply.ensures in
     rw c.in-Agent.is
-    (stands_called g.E.Engine.meaning c.args.self.now.slot c.args.stamp c.args.self.now.log new (g.E.Engine.state c.args.self.now.engine) (g.E.Engine.state c.apply.new.self.engine) w c.args.body s h
+    (stands_called g.E.Engine.meaning c.args.self.now.slot c.args.stamp c.args.self.now.log new (g.E.Engine.state c.args.self.now.engine) (g.E.Engine.state c.apply.new.self.engine) w c.args.client c.args.body s h
     applied.end applied.on_disk
     (c.in_ok-push_back.ensures.items ∙ ap (λ (ws : List Waiting). ws ++ w ∷ []) applied.waiting)
     applied.state applied.reply)

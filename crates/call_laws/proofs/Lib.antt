@@ -1,0 +1,5 @@
+pub mod Agents
+pub mod Sites
+pub mod Clients
+pub mod Worlds
+pub mod Laws
