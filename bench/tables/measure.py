@@ -1,60 +1,100 @@
 """Runs three programs in turn on tables of several sizes, and prints tables of how they compare.
 
-measure.py OURS PLAIN SQLITE [ROUNDS]: each ratio is the median over the rounds of the ratio within a round. A run whose
-counts differ from those of the plain program ends the measuring."""
+measure.py OURS PLAIN SQLITE [ROUNDS [GREATEST]]: each ratio is the median over the rounds of the ratio within a round, and
+behind the slash stands the ratio of the least times of all rounds. GREATEST is the most rows. A run whose counts differ from
+those of the plain program ends the measuring."""
 
 import statistics
 import subprocess
 import sys
 
-OURS, PLAIN, SQLITE = sys.argv[1:4]
+OURS, PLAIN, SQLITE = PROGRAMS = sys.argv[1:4]
 ROUNDS = int(sys.argv[4]) if len(sys.argv) > 4 else 5
+GREATEST = int(sys.argv[5]) if len(sys.argv) > 5 else 1000000
 WORK = ("insert", "read", "update", "range", "undo", "delete")
-SIZES = (1000, 10000, 100000, 1000000)
+POINT = ("insert", "read", "update", "delete")
+SIZES = [rows for rows in (1000, 10000, 100000, 1000000) if rows <= GREATEST]
 
 
 def start(program, table, rows):
     """What a run said of each kind of work, as a count and microseconds, and the KiB of memory that it took."""
-    asked = f"{rows}\n" if program == OURS else f"{table} {rows}\n"
-    run = subprocess.run(["/usr/bin/time", "-f", "%M", program], input=asked, capture_output=True, text=True)
+    run = subprocess.run(["/usr/bin/time", "-f", "%M", program], input=f"{table} {rows}\n", capture_output=True, text=True)
     if run.returncode:
-        sys.exit(f"{program} on {asked.strip()} ended with {run.returncode}: {run.stderr}")
+        sys.exit(f"{program} on {table} {rows} ended with {run.returncode}: {run.stderr}")
     lines = (line.split() for line in run.stdout.splitlines())
-    return {name: (int(count), int(micros)) for name, count, micros in lines}, int(run.stderr.split()[-1])
+    return {name: (int(count), max(int(micros), 1)) for name, count, micros in lines}, int(run.stderr.split()[-1])
 
 
-def cell(values):
-    return f"{statistics.median(values):.2f}" if values else "–"
+def around(program, table, rows):
+    """The memory of a run above that of a run on one row, in bytes, and what the run said."""
+    said, full = start(program, table, rows)
+    _, bare = start(program, table, 1)
+    return said, (full - bare) * 1024
 
 
-def compare(table, rows, programs):
-    """A row of the table for each kind of work, and the memory beside the bytes of the values."""
-    times = {name: [] for name in WORK}
-    memory = {program: [] for program in programs}
-    for _ in range(ROUNDS):
-        runs = {}
-        for program in programs:
-            runs[program], full = start(program, table, rows)
-            _, bare = start(program, table, 1)
-            memory[program].append((full - bare) * 1024)
+def agree(table, rows, runs):
+    for program in (OURS, SQLITE):
         for name in WORK:
-            plain = runs[PLAIN][name]
-            for program in programs:
-                if runs[program].get(name, plain)[0] != plain[0]:
-                    sys.exit(f"{program} counts another {name} of {table}: {runs[program][name][0]} for {plain[0]}")
-            times[name].append({program: max(runs[program][name][1], 1) for program in programs if name in runs[program]})
-        values = runs[PLAIN]["bytes"][0]
+            if runs[program][name][0] != runs[PLAIN][name][0]:
+                sys.exit(f"{program} counts another {name} of {table}: {runs[program][name][0]} for {runs[PLAIN][name][0]}")
+
+
+def measured(table):
+    """For each round and number of rows: what each program said, and its memory."""
+    rounds = []
+    for _ in range(ROUNDS):
+        sizes = {}
+        for rows in SIZES:
+            taken = {program: around(program, table, rows) for program in PROGRAMS}
+            agree(table, rows, {program: said for program, (said, _) in taken.items()})
+            sizes[rows] = taken
+        rounds.append(sizes)
+    return rounds
+
+
+def cell(pairs):
+    """The median of the ratios of pairs, and the ratio of the least of each side."""
+    median = statistics.median(one / other for one, other in pairs)
+    return f"{median:.2f} / {min(one for one, _ in pairs) / min(other for _, other in pairs):.2f}"
+
+
+def micros(sizes, rows, program, name):
+    return sizes[rows][program][0][name][1]
+
+
+def per_call(sizes, rows, program, name):
+    return micros(sizes, rows, program, name) / sizes[rows][program][0][name][0]
+
+
+def ratios(rounds, table, one, other, title):
+    heads = " | ".join(f"{rows} rows" for rows in SIZES)
+    print(f"\n| {table}, {title} | {heads} |\n" + "|---" * (len(SIZES) + 1) + "|")
     for name in WORK:
-        ratio = lambda one, other: cell([t[one] / t[other] for t in times[name] if one in t and other in t])
-        print(f"| {table} | {rows} | {name} | {ratio(OURS, PLAIN)} | {ratio(OURS, SQLITE)} | {ratio(SQLITE, PLAIN)} |", flush=True)
-    return {program: statistics.median(memory[program]) / values for program in programs}
+        cells = (cell([(micros(s, rows, one, name), micros(s, rows, other, name)) for s in rounds]) for rows in SIZES)
+        print(f"| {name} | " + " | ".join(cells) + " |", flush=True)
 
 
-print("| table | rows | work | volt / maps | volt / SQLite | SQLite / maps |\n|---|---|---|---|---|---|")
-taken = {}
-for table, programs in (("acct", (OURS, PLAIN, SQLITE)), ("wide", (PLAIN, SQLITE))):
-    for rows in SIZES:
-        taken[table] = compare(table, rows, programs)
-print(f"\n| table, {SIZES[-1]} rows | volt | maps | SQLite |\n|---|---|---|---|")
-for table, of in taken.items():
-    print(f"| {table} | " + " | ".join(f"{of[p]:.1f}" if p in of else "–" for p in (OURS, PLAIN, SQLITE)) + " |")
+def growth(rounds, table):
+    few, many = SIZES[min(1, len(SIZES) - 1)], SIZES[-1]
+    print(f"\n| {table}, a call at {many} rows / at {few} | volt | maps | SQLite |\n|---|---|---|---|")
+    for name in POINT:
+        cells = (cell([(per_call(s, many, p, name), per_call(s, few, p, name)) for s in rounds]) for p in PROGRAMS)
+        print(f"| {name} | " + " | ".join(cells) + " |", flush=True)
+
+
+def memory(rounds):
+    rows = SIZES[-1]
+    values = rounds[0][rows][PLAIN][0]["bytes"][0]
+    return [f"{statistics.median(s[rows][p][1] for s in rounds) / values:.2f}" for p in PROGRAMS]
+
+
+kept = {}
+for table in ("acct", "wide"):
+    rounds = measured(table)
+    for one, other, title in ((OURS, PLAIN, "volt / maps"), (OURS, SQLITE, "volt / SQLite"), (SQLITE, PLAIN, "SQLite / maps")):
+        ratios(rounds, table, one, other, title)
+    growth(rounds, table)
+    kept[table] = memory(rounds)
+print(f"\n| memory of {SIZES[-1]} rows / bytes of their values | volt | maps | SQLite |\n|---|---|---|---|")
+for table, cells in kept.items():
+    print(f"| {table} | " + " | ".join(cells) + " |")

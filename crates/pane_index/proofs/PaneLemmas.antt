@@ -1,5 +1,5 @@
 -- What a pane keeps, call by call.
-use Rattle.std.proofs.Common.{◌≡◌, ◌≢◌, ℕ, ◌+◌, ◌-◌, ◌*◌, ◌/◌, ◌<◌, ◌≤◌, max, Bool, true, false, cond, ltb, List, [], ◌∷◌, ◌++◌, Option, Some, None, ◌↔◌, IsTrue, IsSome, is_some, MatchOption, length, set, drop, count_by, refl, sym, ap, ◌∙◌, subst, arith, inl, inr, Bor}
+use Rattle.std.proofs.Common.{◌≡◌, ◌≢◌, ℕ, ◌+◌, ◌-◌, ◌*◌, ◌/◌, ◌<◌, ◌≤◌, max, Bool, true, false, cond, ltb, List, [], ◌∷◌, ◌++◌, Option, Some, None, ◌↔◌, IsTrue, IsSome, IfSome, is_some, MatchOption, length, set, drop, count_by, refl, sym, ap, ◌∙◌, subst, arith, inl, inr, Bor}
 use Rattle.std.specs.Option.{option_copied}
 use Rattle.std.specs.Int.{div_ceil}
 use Rattle.std.proofs.lemmas.Bool.{cases_eq, cases_lt, ltb-true, ltb-false, lt-ltb, false≢true, true≢false}
@@ -7,7 +7,7 @@ use Rattle.std.proofs.lemmas.List.{length-set, get_or-set_same, get_or-set_other
 use Rattle.std.proofs.lemmas.List.Sums.{sum_by-append, count_by-le-length}
 use Rattle.tuple_block.specs.Tuples.{Slots, Tuples, free_slots, slot_at, IsHeld, IsFree, IsNextHeld, IsLastHeld}
 use Rattle.cow_scan.specs.Cow.{Cow}
-use Rattle.pane_index.specs.Rows.{used_places, held_from, IsCrowded}
+use Rattle.pane_index.specs.Rows.{Rows, used_places, held_from, with_moved, IsCrowded}
 use Rattle.pane_index.specs.Blocks.{all_slots, rows_of, AreBlocksOf, IsPane}
 use Rattle.pane_index.specs.Search.{IsFirstFreeWithin, IsLastHeldWithin, SameShape, HasGrown, IsFreePlace, CanMove, IsDense, move_of}
 use Rattle.pane_index.proofs.CountLemmas.{held, IsHeld-join, IsHeld-part, IsFree-join, IsFree-part, held_or_free, count-put, count-clear, count-cut, used-le, used-last, used-cut, held_from-next, held_from-none}
@@ -199,65 +199,62 @@ module _ (c : Cow) (first next used count : ℕ) (is : IsPane c first next used 
       let over : from < to = omega (arith, ltb-false to from more, other) in
       cut_is_dense (from + 1) (omega (arith, is_last.within)) (IsHeld-part slots 0 0 (from + 1) to held_to (omega arith) (omega arith)) is_last.free_behind)
 
+  pub move-fits : (r : Option (ℕ × ℕ)) → MatchOption r (IsDense (rows_of c)) (λ m. CanMove (rows_of c) m.0 m.1) → IfSome r (λ m. m.0 < 268435456)
+  move-fits None dense = tt
+  move-fits (Some m) can = place_fits m.0 can.last.within
+
   -- ---- after a move
-  module _ (d : Cow) (from to : ℕ) (can : CanMove (rows_of c) from to) (shape : SameShape c d)
-      (moved : all_slots d.blocks ≡ set (set (all_slots c.blocks) to (slot_at (all_slots c.blocks) from)) from None) where
-    to_within : to < length (all_slots c.blocks)
-    to_within = can.first.within
+  pub IsPane-moved : (d : Cow) (from to : ℕ) → to < from → IsSome (slot_at (all_slots c.blocks) from) → slot_at (all_slots c.blocks) to ≡ None → SameShape c d
+      → all_slots d.blocks ≡ set (set (all_slots c.blocks) to (slot_at (all_slots c.blocks) from)) from None → IsPane d first next used count
+  IsPane-moved d from to before there free shape moved =
+      let slots = all_slots c.blocks in
+      let tuple = some_of (slot_at slots from) there in
+      let half = set slots to (slot_at slots from) in
+      let len = length-slots in
+      let half_len : length half ≡ length slots = length-set slots to (slot_at slots from) in
+      let inside : from < length slots = within_from_held slots from there in
+      let to_inside : to < length slots = omega arith in
+      let other : from ≢ to = omega arith in
+      let there_still : IsSome (slot_at half from) = subst IsSome (sym (get_or-set_other slots to from (slot_at slots from) None other)) there in
+      let low : 64 * first ≤ to = elim (cases_lt to (64 * first)) [
+        | inl less ↦ absurd (held_or_free (slot_at slots to) (is.full_below to (omega arith) less) free)
+        | inr more ↦ more
+      ] in
+      let high : from < 64 * used = elim (cases_lt from (64 * used)) [
+        | inl less ↦ less
+        | inr more ↦ absurd (held_or_free (slot_at slots from) there (is.free_from from more (omega arith)))
+      ] in
+      let grown : count_by is_some half ≡ count_by is_some slots + 1 =
+      ap (λ slot. count_by is_some (set slots to slot)) tuple.1 ∙ count-put slots to tuple.0 to_inside free in
+      let counts : count_by is_some (set half from None) + 1 ≡ count_by is_some half = count-clear half from (omega arith) there_still in
+      record {
+        are_blocks = shape.are_blocks;
+        limit = omega (arith, shape.len, is.limit);
+        full_below = rw moved (IsHeld-set_behind half 0 (64 * first) from None (omega arith) (IsHeld-set_behind slots 0 (64 * first) to (slot_at slots from) low is.full_below));
+        first_within = omega (arith, shape.len, is.first_within);
+        next_within = omega (arith, shape.len, is.next_within);
+        free_from = rw moved (IsFree-set_before half (64 * used) (64 * length d.blocks) from None high
+            (IsFree-set_before slots (64 * used) (64 * length d.blocks) to (slot_at slots from) (omega arith)
+            (IsFree-part slots (64 * used) (64 * used) (64 * length d.blocks) (64 * length c.blocks) is.free_from (omega arith) (omega (arith, shape.len)))));
+        used_within = omega (arith, shape.len, is.used_within);
+        counted = rw moved (omega (arith, is.counted, grown, counts));
+      }
 
-    from_there : IsSome (slot_at (set (all_slots c.blocks) to (slot_at (all_slots c.blocks) from)) from)
-    from_there =
-        let slots = all_slots c.blocks in
-        let before = can.before in
-        let other : from ≢ to = omega arith in
-        subst IsSome (sym (get_or-set_other slots to from (slot_at slots from) None other)) can.last.held
-
-    pub IsPane-moved : IsPane d first next used count
-    IsPane-moved =
-        let slots = all_slots c.blocks in
-        let tuple = some_of (slot_at slots from) can.last.held in
-        let half = set slots to (slot_at slots from) in
-        let before = can.before in
-        let len = length-slots in
-        let half_len : length half ≡ length slots = length-set slots to (slot_at slots from) in
-        let low : 64 * first ≤ to = elim (cases_lt to (64 * first)) [
-          | inl less ↦ absurd (held_or_free (slot_at slots to) (is.full_below to (omega arith) less) can.first.free)
-          | inr more ↦ more
-        ] in
-        let high : from < 64 * used = elim (cases_lt from (64 * used)) [
-          | inl less ↦ less
-          | inr more ↦ absurd (held_or_free (slot_at slots from) can.last.held (is.free_from from more (omega (arith, can.last.within))))
-        ] in
-        let grown : count_by is_some half ≡ count_by is_some slots + 1 =
-        ap (λ slot. count_by is_some (set slots to slot)) tuple.1 ∙ count-put slots to tuple.0 to_within can.first.free in
-        let counts : count_by is_some (set half from None) + 1 ≡ count_by is_some half = count-clear half from (omega (arith, can.last.within)) from_there in
-        record {
-          are_blocks = shape.are_blocks;
-          limit = omega (arith, shape.len, is.limit);
-          full_below = rw moved (IsHeld-set_behind half 0 (64 * first) from None (omega arith) (IsHeld-set_behind slots 0 (64 * first) to (slot_at slots from) low is.full_below));
-          first_within = omega (arith, shape.len, is.first_within);
-          next_within = omega (arith, shape.len, is.next_within);
-          free_from = rw moved (IsFree-set_before half (64 * used) (64 * length d.blocks) from None high
-              (IsFree-set_before slots (64 * used) (64 * length d.blocks) to (slot_at slots from) (omega arith)
-              (IsFree-part slots (64 * used) (64 * used) (64 * length d.blocks) (64 * length c.blocks) is.free_from (omega arith) (omega (arith, shape.len)))));
-          used_within = omega (arith, shape.len, is.used_within);
-          counted = rw moved (omega (arith, is.counted, grown, counts));
-        }
-
-    pub used-moved : used_places (all_slots d.blocks) < used_places (all_slots c.blocks)
-    used-moved =
-        let slots = all_slots c.blocks in
-        let half = set slots to (slot_at slots from) in
-        let before = can.before in
-        let was : used_places slots ≡ from + 1 = used-last slots from can.last in
-        let free : IsFree (set half from None) from (length (set half from None)) = λ k a b. elim (cases_eq k from) [
-          | inl same ↦ subst (λ n. slot_at (set half from None) n ≡ None) (sym same) (get_or-set_same half from None None (omega (arith, length-set slots to (slot_at slots from), can.last.within)))
-          | inr other ↦
-              let apart : k ≢ to = omega arith in
-              get_or-set_other half from k None None other ∙ (get_or-set_other slots to k (slot_at slots from) None apart
-              ∙ can.last.free_behind k (omega arith) (omega (arith, length-set half from None, length-set slots to (slot_at slots from))))
-        ] in
-        rw moved (omega (arith, was, used-le (set half from None) from free))
+-- the last tuple then stands at an earlier place
+pub used-moved : (rows : Rows) (from to : ℕ) → CanMove rows from to → used_places (with_moved rows from to).slots < used_places rows.slots
+used-moved rows from to can =
+    let slots = rows.slots in
+    let half = set slots to (slot_at slots from) in
+    let before = can.before in
+    let was : used_places slots ≡ from + 1 = used-last slots from can.last in
+    let free : IsFree (set half from None) from (length (set half from None)) = λ k a b. elim (cases_eq k from) [
+      | inl same ↦ subst (λ n. slot_at (set half from None) n ≡ None) (sym same) (get_or-set_same half from None None (omega (arith, length-set slots to (slot_at slots from), can.last.within)))
+      | inr other ↦
+          let apart : k ≢ to = omega arith in
+          get_or-set_other half from k None None other ∙ (get_or-set_other slots to k (slot_at slots from) None apart
+          ∙ can.last.free_behind k (omega arith) (omega (arith, length-set half from None, length-set slots to (slot_at slots from))))
+    ] in
+    omega (arith, was, used-le (set half from None) from free)
 
 -- ---- the places that hold tuples
 module _ (width : ℕ) (blocks : List Tuples) (are : AreBlocksOf width blocks) (limit : length blocks ≤ 4194304) (at : ℕ) where

@@ -39,12 +39,16 @@ used_places (slot ∷ slots) = if is_some slot || nat_lt 0 (used_places slots) t
 abbrev pub IsPacked : Rows → Type 0
 IsPacked rows = (p q : ℕ) → p < q → row_at rows p ≡ None → row_at rows q ≡ None
 
+-- the same rows, but for the one of a place, which stands at another
+abbrev pub with_moved : Rows → ℕ → ℕ → Rows
+with_moved rows from to = with_row (with_row rows to (row_at rows from)) from None
+
 -- the last tuple moved to the first free place, which was before it
 pub record IsMoved (old new : Rows) (from to : ℕ) : Type 0 where
   pub before : to < from
   pub last : IsLastHeld old.slots from
   pub first : IsFirstFree old.slots to
-  pub moved : new ≡ with_row (with_row old to (row_at old from)) from None
+  pub moved : new ≡ with_moved old from to
 
 -- the places that hold tuples, in order, where the first slot is that of place n
 abbrev pub held_from : ℕ → Slots → List ℕ

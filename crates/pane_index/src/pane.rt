@@ -3,7 +3,7 @@
 ghost use Rattle.std.specs.Prelude.{◌≡◌, ◌+◌, ◌*◌, ◌<◌, ◌≤◌, ◌↔◌, false, Some, None, IsSome, IsTrue, length, MatchOption, IfOk, OnOk, OnErr, IfSome, IfNone};
 ghost use Rattle.std.specs.Option.{option_copied};
 ghost use Rattle.std.specs.Int.{div_ceil};
-ghost use Rattle.pane_index.specs.Rows.{no_rows, row_at, with_row, with_place, row_count, used_places, held_places, IsCrowded, IsPacked, IsMoved};
+ghost use Rattle.pane_index.specs.Rows.{no_rows, row_at, with_row, with_place, row_count, used_places, held_places, IsCrowded, IsPacked, IsMoved, with_moved};
 ghost use Rattle.pane_index.specs.Blocks.{Hold};
 ghost use Rattle.pane_index.specs.Search.{IsFreePlace, CanMove, IsDense, move_of};
 
@@ -171,9 +171,32 @@ impl Pane {
         Ok(())
     }
 
-    /// Moves the last tuple to the first free place, where that is before it, and tells the old place
-    /// and the new one. `None` comes exactly where no place before a tuple is free: then the n tuples
-    /// stand at the first n places. Out of memory, the rows are as before.
+    /// The place of the last tuple and the first free place, where that is before it. `None` comes
+    /// exactly where no place before a tuple is free: then the n tuples stand at the first n places. It
+    /// takes no memory.
+    pub fn next_move(&mut self) -> Option<(Place, Place)>
+        ensures kept { self.new ≡ self.old }
+        ensures found { MatchOption result (IsDense self.old) (λ m. CanMove self.old m.0 m.1) }
+    {
+        let (from, to) = self.ends()?;
+        Some((Place::new(from), Place::new(to)))
+    }
+
+    /// Moves a tuple to a free place before it. Out of memory, the rows are as before.
+    pub fn shift(&mut self, from: Place, to: Place) -> Result<(), AllocError>
+        requires before { to < from }
+        requires held { IsSome (row_at self.old from) }
+        requires free { row_at self.old to ≡ None }
+        ensures moved { OnOk result (self.new ≡ with_moved self.old from to) }
+        ensures kept { OnErr result (self.new ≡ self.old) }
+    {
+        let (from, to) = (from.number(), to.number());
+        rows::shift::<Brand>(self.alloc, &mut self.cow, from, to, Blank::new(1))?;
+        Ok(())
+    }
+
+    /// Moves the last tuple to the first free place, as `next_move` tells them, and tells the old place
+    /// and the new one. Out of memory, the rows are as before.
     pub fn compact(&mut self) -> Result<Option<(Place, Place)>, AllocError>
         ensures moved { IfOk result (λ m. IfSome m (λ pair. IsMoved self.old self.new pair.0 pair.1)) }
         // The last tuple then stands at an earlier place, so that a loop over it ends.
@@ -183,13 +206,11 @@ impl Pane {
         ensures dense { IfOk result (λ m. IfNone m (used_places self.old.slots ≡ row_count self.old)) }
         ensures kept { OnErr result (self.new ≡ self.old) }
     {
-        match self.next_move() {
-            Some((from, to)) => {
-                rows::shift::<Brand>(self.alloc, &mut self.cow, from, to, Blank::new(1))?;
-                Ok(Some((Place::new(from), Place::new(to))))
-            }
-            None => Ok(None),
-        }
+        let Some((from, to)) = self.next_move() else {
+            return Ok(None);
+        };
+        self.shift(from, to)?;
+        Ok(Some((from, to)))
     }
 
     /// A scan of all blocks, whose rows are as they stand now whatever is written later. The rows are
@@ -254,8 +275,9 @@ impl Pane {
         Ok(Place::new(p))
     }
 
-    // The place of the last tuple and the first free place, where that is before it.
-    fn next_move(&mut self) -> Option<(u32, u32)>
+    // The numbers of the places that `next_move` tells.
+    fn ends(&mut self) -> Option<(u32, u32)>
+        ensures limit { IfSome result (λ m. m.0 < 268435456) }
         ensures kept { self.new ≡ self.old }
         ensures found { MatchOption result (IsDense self.old) (λ m. CanMove self.old m.0 m.1) }
     {

@@ -11,7 +11,7 @@ use Rattle.table_rows.specs.Held.{row_at, with_row, without_row}
 use Rattle.table_rows.specs.Spread.{Spread, nothing, IsSpread, IsPlaced}
 use Rattle.table_rows.specs.Table.{Table, no_rows, inserted, has_like, clashes, duplicate_if, first_of, IsSchema}
 use Rattle.table_rows.specs.Keyed.{new_index, coming, going, compared, entered, backed_out, left, is_taken, kept, AreApart}
-use Rattle.table_rows.specs.Standing.{keys_of, table_of, standing_table, IsStanding}
+use Rattle.table_rows.specs.Standing.{keys_of, table_of, standing_table, IsStanding, StandFor}
 use Rattle.table_rows.specs.declared.keyed.KeyedIndex.{KeyedIndex}
 use Rattle.table_rows.proofs.HeldLemmas.{AreElsewhere, elsewhere_none}
 use Rattle.table_rows.proofs.PlacedOrder.{Held, AreOthers, All-each}
@@ -38,6 +38,12 @@ same_standing s t ks ls is fields held same = record {
 pub same_table : (s t : Spread) (ks ls : List KeyedIndex) → t.fields ≡ s.fields → t.held ≡ s.held → map kept ls ≡ map kept ks → standing_table t ls ≡ standing_table s ks
 same_table s t ks ls fields held same =
     ap₂ (λ (fs : List Field) (hs : Held). table_of fs (keys_of ls) hs) fields held ∙ ap (λ keys. table_of s.fields keys s.held) (same_keys ls ks same)
+
+pub still_stand : (s t : Spread) (ks ls : List KeyedIndex) → IsStanding s ks → t ≡ s → map kept ls ≡ map kept ks → StandFor t ls (standing_table s ks)
+still_stand s t ks ls is whole same =
+    let fields = ap (λ (v : Spread). v.fields) whole in
+    let held = ap (λ (v : Spread). v.held) whole in
+    record { standing = same_standing s t ks ls is fields held same; same = same_table s t ks ls fields held same }
 
 -- ---- a row more
 

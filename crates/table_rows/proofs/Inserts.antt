@@ -4,6 +4,8 @@ use Rattle.std.specs.List.{list_any, AllByRecursion}
 use Rattle.std.specs.BTreeSet.{insert_key}
 use Rattle.std.specs.Set.{remove_key}
 use Rattle.std.specs.Cmp.{IsTotalOrder}
+use Rattle.std.specs.List.Sorted.{IsPermutation}
+use Rattle.std.proofs.lemmas.List.Sorted.{IsPermutation-refl, IsPermutation-trans, IsPermutation-cons, IsPermutation-middle}
 use Rattle.std.specs.Ordering.{match_ordering, ordering_reverse}
 use Rattle.std.specs.declared.cmp.Ordering.{Ordering}
 use Rattle.std.specs.declared.cmp.Ordering.TheVariants.{Less, Equal, Greater}
@@ -77,3 +79,14 @@ put_in Greater P x e es more is are ih = (are.0, ih)
 pub All-insert_key : {K : Type 0} (R : K → K → Ordering) (P : K → Type 0) (x : K) (es : List K) → P x → AllByRecursion P es → AllByRecursion P (insert_key R es x)
 All-insert_key R P x [] is are = (is, tt)
 All-insert_key R P x (e ∷ es) is are = put_in (R x e) P x e es (insert_key R es x) is are (All-insert_key R P x es is are.1)
+
+-- what is put in where none is like it is one element more
+added : {K : Type 0} (r : Ordering) (x e : K) (es more : List K) → (r ≡ Equal → ⊥) → IsPermutation (x ∷ es) more → IsPermutation (x ∷ e ∷ es) (match_ordering r (x ∷ e ∷ es) (e ∷ es) (e ∷ more))
+added Less x e es more apart ih = IsPermutation-refl (x ∷ e ∷ es)
+added Equal x e es more apart ih = absurd (apart refl)
+added Greater x e es more apart ih =
+    IsPermutation-trans (x ∷ e ∷ es) (e ∷ x ∷ es) (e ∷ more) (IsPermutation-middle (x ∷ []) e es) (IsPermutation-cons e (x ∷ es) more ih)
+
+pub IsPermutation-insert_key : {K : Type 0} (R : K → K → Ordering) (x : K) (es : List K) → AllByRecursion (λ e. R x e ≡ Equal → ⊥) es → IsPermutation (x ∷ es) (insert_key R es x)
+IsPermutation-insert_key R x [] apart = IsPermutation-refl (x ∷ [])
+IsPermutation-insert_key R x (e ∷ es) apart = added (R x e) x e es (insert_key R es x) apart.0 (IsPermutation-insert_key R x es apart.1)

@@ -11,3 +11,5 @@ pub mod TableChanges
 pub mod ChangeLemmas
 pub mod ReadLemmas
 pub mod BackLemmas
+pub mod MoveLemmas
+pub mod TwinLemmas

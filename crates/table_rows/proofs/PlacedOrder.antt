@@ -4,6 +4,8 @@ use Rattle.std.proofs.lemmas.Bool.{cases_lt, cases_eq}
 use Rattle.std.specs.List.{list_any, AllByRecursion}
 use Rattle.std.specs.BTreeSet.{insert_key}
 use Rattle.std.specs.Cmp.{IsTotalOrder}
+use Rattle.std.specs.List.Sorted.{IsPermutation}
+use Rattle.std.proofs.lemmas.List.Sorted.{IsPermutation-refl, IsPermutation-trans, IsPermutation-cons, IsPermutation-map}
 use Rattle.std.specs.Ordering.{is_eq, match_ordering}
 use Rattle.std.specs.declared.cmp.Ordering.{Ordering}
 use Rattle.std.specs.declared.cmp.Ordering.TheVariants.{Less, Equal, Greater}
@@ -12,7 +14,7 @@ use Rattle.table_rows.specs.Held.{row_at, with_row, without_row, AreRising}
 use Rattle.table_rows.specs.Order.{row_cmp, agree, in_order_by, in_order}
 use Rattle.table_rows.specs.Table.{agrees_with_one}
 use Rattle.table_rows.specs.Keyed.{placed_cmp, AreApart}
-use Rattle.table_rows.proofs.Inserts.{insert_swap, map-insert_key, list_any-insert_key, All-insert_key}
+use Rattle.table_rows.proofs.Inserts.{insert_swap, map-insert_key, list_any-insert_key, All-insert_key, IsPermutation-insert_key}
 use Rattle.table_rows.proofs.HeldLemmas.{AreElsewhere, All-with_row, All-without_row, All-row_at, with_first, with_later, without_same, without_other, at_same, at_other}
 use Rattle.table_rows.proofs.RowOrder.{placed_total, row_total, turned_apart, not_equal, is_equal}
 
@@ -174,3 +176,14 @@ rows_order columns [] = refl
 rows_order columns (e ∷ held) =
     rows_insert columns (in_order_by (placed_cmp columns) held) e
     ∙ ap (λ rs. insert_key (row_cmp columns) rs e.1) (rows_order columns held)
+
+-- and are the same rows
+permuted : (columns : List ℕ) (held : Held) → AreApart columns held → IsPermutation held (in_order_by (placed_cmp columns) held)
+permuted columns [] apart = IsPermutation-refl []
+permuted columns (e ∷ held) apart =
+    let ordered = in_order_by (placed_cmp columns) held in
+    IsPermutation-trans (e ∷ held) (e ∷ ordered) (insert_key (placed_cmp columns) ordered e) (IsPermutation-cons e held ordered (permuted columns held apart.1))
+    (IsPermutation-insert_key (placed_cmp columns) e ordered (All-in_order columns (λ f. placed_cmp columns e f ≡ Equal → ⊥) held apart.0))
+
+pub same_rows_permuted : (columns : List ℕ) (held : Held) → AreApart columns held → IsPermutation (map (λ e. e.1) held) (map (λ e. e.1) (in_order_by (placed_cmp columns) held))
+same_rows_permuted columns held apart = IsPermutation-map (λ (e : ℕ × List Value). e.1) held (in_order_by (placed_cmp columns) held) (permuted columns held apart)

@@ -5,6 +5,7 @@ use Rattle.std.proofs.lemmas.List.{with_items_is, length-map}
 use Rattle.std.proofs.lemmas.Option.{slice_get-get_or}
 use Rattle.std.specs.Vec.{with_items}
 use Rattle.std.specs.List.{AllByRecursion}
+use Rattle.std.specs.List.Sorted.{IsPermutation}
 use Rattle.std.specs.Option.{unwrap_or}
 use Rattle.std.specs.Set.{remove_key}
 use Rattle.volt_value.specs.declared.value.Value.{Value}
@@ -14,14 +15,14 @@ use Rattle.row_codec.specs.declared.fault.RowFault.TheVariants.{NoMemory}
 use Rattle.row_codec.specs.Faults.{columns_fault}
 use Rattle.tuple_block.specs.Tuples.{Tuples}
 use Rattle.pane_index.specs.Blocks.{all_slots}
-use Rattle.table_rows.specs.Held.{row_at, with_row, without_row}
-use Rattle.table_rows.specs.Spread.{Spread, IsSpread, held_from}
-use Rattle.table_rows.specs.Order.{row_key, in_order}
+use Rattle.table_rows.specs.Held.{row_at, with_row, without_row, ArePacked}
+use Rattle.table_rows.specs.Spread.{Spread, IsSpread, AreTuples, held_from}
+use Rattle.table_rows.specs.Order.{row_key}
 use Rattle.table_rows.specs.Table.{Table, first_of, has_key, has_like, clashes, primary_key, duplicate_if, first_fault, row_fault, deleted, updated, find_row, row_of_key, rows_between}
 use Rattle.table_rows.specs.Keyed.{contents_of, IsKept}
-use Rattle.table_rows.specs.Standing.{keys_of, table_of, standing_table, first_place, rows_at, rows_in, IsHeldAt, IsRowOfKey, IsStanding}
+use Rattle.table_rows.specs.Standing.{keys_of, table_of, standing_table, first_place, rows_at, rows_in, IsHeldAt, IsRowOfKey, IsStanding, StandFor, IsScanOf}
 use Rattle.table_rows.specs.declared.keyed.KeyedIndex.{KeyedIndex}
-use Rattle.table_rows.proofs.PlacedOrder.{Held, rows_order, AreOthers, apart_without}
+use Rattle.table_rows.proofs.PlacedOrder.{Held, same_rows_permuted, AreOthers, apart_without}
 use Rattle.table_rows.proofs.KeyedChanges.{AllKept, first_apart}
 use Rattle.table_rows.proofs.TableChanges.{first_others, deleted_is, updated_is, others_deleted, row_found, place_held, range_is, range_held}
 use Rattle.table_rows.proofs.ChangeLemmas.{rows_fit}
@@ -155,10 +156,14 @@ never_missing s ks place key of row none = cc (sym of.there ∙ sym row ∙ none
 
 -- ---- a scan
 
-pub scan_is : (s : Spread) (ks : List KeyedIndex) (scan : List Tuples) → held_from s.fields 0 (all_slots scan) ≡ s.held → in_order (first_of (keys_of ks)) (rows_in s.fields scan) ≡ (standing_table s ks).rows
-scan_is s ks scan is = ap (λ (held : Held). in_order (first_of (keys_of ks)) (map (λ (e : ℕ × List Value). e.1) held)) is ∙ sym (rows_order (first_of (keys_of ks)) s.held)
+scan_is : (s : Spread) (ks : List KeyedIndex) (scan : List Tuples) → IsStanding s ks → held_from s.fields 0 (all_slots scan) ≡ s.held → IsPermutation (rows_in s.fields scan) (standing_table s ks).rows
+scan_is s ks scan standing is =
+    let columns = first_of (keys_of ks) in
+    subst (λ (rows : List (List Value)). IsPermutation rows (standing_table s ks).rows) (sym (ap (map (λ (e : ℕ × List Value). e.1)) is))
+    (same_rows_permuted columns s.held (first_apart s.held ks standing.schema.some standing.kept))
 
-pub scan_given : {E : Type 0} (s : Spread) (ks : List KeyedIndex) (result : Result (List Tuples) E) → IfOk result (λ scan. held_from s.fields 0 (all_slots scan) ≡ s.held)
-    → IfOk result (λ scan. in_order (first_of (keys_of ks)) (rows_in s.fields scan) ≡ (standing_table s ks).rows)
-scan_given s ks (Ok scan) is = scan_is s ks scan is
-scan_given s ks (Err failed) is = tt
+pub scan_given : {E : Type 0} (s : Spread) (ks : List KeyedIndex) (table : Table) (result : Result (List Tuples) E) → StandFor s ks table → ArePacked s.held
+    → IfOk result (λ scan. held_from s.fields 0 (all_slots scan) ≡ s.held) → IfOk result (λ scan. AreTuples s.fields (all_slots scan)) → IfOk result (IsScanOf table)
+scan_given s ks table (Ok scan) stand packed is tuples =
+    subst (λ (t : Table). IsScanOf t scan) stand.same (record { rows = scan_is s ks scan stand.standing is; packed = subst ArePacked (sym is) packed; tuples = tuples })
+scan_given s ks table (Err failed) stand packed is tuples = tt

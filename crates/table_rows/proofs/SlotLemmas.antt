@@ -17,7 +17,7 @@ use Rattle.table_rows.proofs.HeldLemmas.{apart, alike, AreBehind, AreElsewhere, 
 
 -- ---- where they stand
 
-behind : (fields : List Field) (m n : ℕ) (slots : Slots) → m < n → AreBehind m (held_from fields n slots)
+pub behind : (fields : List Field) (m n : ℕ) (slots : Slots) → m < n → AreBehind m (held_from fields n slots)
 behind fields m n [] lt = tt
 behind fields m n (None ∷ slots) lt = behind fields m (suc n) slots (omega arith)
 behind fields m n (Some tuple ∷ slots) lt = (lt, behind fields m (suc n) slots (omega arith))

@@ -1,5 +1,5 @@
 -- Rows in a pane of which one place may be spare.
-use Rattle.std.proofs.Common.{◌≡◌, ℕ, ◌+◌, ◌<◌, ◌^◌, ltb, Bool, true, false, cond, eqb, List, [], ◌∷◌, ◌++◌, length, Option, Some, None, is_some, IsSome, IfSome, Bor, inl, inr, refl, sym, ap, ap₂, ◌∙◌, subst, arith}
+use Rattle.std.proofs.Common.{◌≡◌, ℕ, zero, suc, Result, Ok, Err, IfOk, ◌+◌, ◌<◌, ◌^◌, ltb, Bool, true, false, cond, eqb, List, [], ◌∷◌, ◌++◌, length, Option, Some, None, is_some, IsSome, IfSome, Bor, inl, inr, refl, sym, ap, ap₂, ◌∙◌, subst, arith}
 use Rattle.std.proofs.lemmas.Bool.{false≢true, cases_eq}
 use Rattle.std.proofs.lemmas.List.{get_or-set_other}
 use Rattle.std.specs.List.{AllByRecursion}
@@ -8,11 +8,12 @@ use Rattle.std.specs.Option.{unwrap_or, option_copied}
 use Rattle.volt_value.specs.declared.value.Value.{Value}
 use Rattle.row_codec.specs.declared.field.Field.{Field}
 use Rattle.row_codec.specs.Packing.{row_width, row_of, IsRow, IsTuple}
-use Rattle.tuple_block.specs.Tuples.{Slots, free_slots, slot_at}
+use Rattle.tuple_block.specs.Tuples.{Slots, Tuples, free_slots, slot_at}
+use Rattle.pane_index.specs.Blocks.{Hold, all_slots}
 use Rattle.pane_index.specs.Rows.{Rows}
 use Rattle.pane_index.specs.Rows as pane
 use Rattle.table_rows.specs.Held.{row_at, with_row, without_row, AreRising}
-use Rattle.table_rows.specs.Spread.{Spread, held_from, masked, spread_of, IsPlaced, IsSlot, IsStored, IsSpread}
+use Rattle.table_rows.specs.Spread.{Spread, AreTuples, held_from, masked, spread_of, IsPlaced, IsSlot, IsStored, IsSpread}
 use Rattle.table_rows.proofs.HeldLemmas.{apart, alike}
 use Rattle.table_rows.proofs.SlotLemmas.{rising, at-held_from, held_from-set, held_from-clear, All-held_from, held_from-grown, slot_at-grown, slot_at-set, slot_at-clear, set_twice, set_apart, set_itself, length-set, within}
 
@@ -371,3 +372,14 @@ freed-is fields rows new spare place q spare_is same is =
 pub none-ready : (fields : List Field) (rows : Rows) (spare : Option ℕ) → (spread_of fields rows spare).ready ≡ None → held_from fields 0 rows.slots ≡ (spread_of fields rows spare).held
 none-ready fields rows None none = refl
 none-ready fields rows (Some p) none = absurd cc
+
+-- ---- the tuples of a scan
+
+are_tuples : (fields : List Field) (slots : Slots) → ((i : ℕ) (tuple : List ℕ) → slot_at slots i ≡ Some tuple → IsTuple fields tuple) → AreTuples fields slots
+are_tuples fields [] are = tt
+are_tuples fields (None ∷ slots) are = are_tuples fields slots (λ i tuple is. are (suc i) tuple is)
+are_tuples fields (Some tuple ∷ slots) are = (are zero tuple refl, are_tuples fields slots (λ i t is. are (suc i) t is))
+
+pub shared-tuples : {E : Type 0} (fields : List Field) (rows : Rows) (spare : Option ℕ) (result : Result (List Tuples) E) → IsStored fields rows spare → IfOk result (Hold rows) → IfOk result (λ scan. AreTuples fields (all_slots scan))
+shared-tuples fields rows spare (Ok scan) stored hold = subst (AreTuples fields) (sym hold.slots) (are_tuples fields rows.slots (λ i tuple is. (stored.slots i tuple is).fits))
+shared-tuples fields rows spare (Err failed) stored hold = tt

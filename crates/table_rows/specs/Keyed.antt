@@ -5,7 +5,7 @@ use Rattle.std.specs.Str.{bytes_eq}
 use Rattle.std.specs.declared.cmp.Ordering.{Ordering}
 use Rattle.std.specs.declared.cmp.Ordering.TheVariants.{Equal}
 use Rattle.volt_value.specs.declared.value.Value.{Value}
-use Rattle.volt_index.specs.Index.{Contents, nothing, with_entry, without_entry, clash_of}
+use Rattle.volt_index.specs.Index.{Contents, nothing, with_entry, without_entry, with_place_at, clash_of}
 use Rattle.table_rows.specs.Order.{row_cmp, row_key, in_order_by}
 use Rattle.table_rows.specs.declared.keyed.KeyedIndex.{KeyedIndex}
 
@@ -36,6 +36,10 @@ backed_out place k = if k.changes then record k { index = without_entry k.index 
 -- the place stands at the stale key no more, where the index changes
 abbrev pub left : ℕ → KeyedIndex → KeyedIndex
 left place k = if k.changes then record k { index = without_entry k.index k.stale place } else k
+
+-- another place stands at the stale key
+abbrev pub relocated : ℕ → KeyedIndex → KeyedIndex
+relocated place k = record k { index = with_place_at k.index k.stale place }
 
 -- another row has the fresh key
 abbrev pub is_taken : KeyedIndex → Bool

@@ -30,6 +30,12 @@ abbrev pub masked : Option ℕ → Slots → Slots
 masked None slots = slots
 masked (Some place) slots = slice_set slots place None
 
+-- each tuple of slots holds a row of these columns
+abbrev pub AreTuples : List Field → Slots → Type 0
+AreTuples fields [] = Unit {0}
+AreTuples fields (None ∷ slots) = AreTuples fields slots
+AreTuples fields (Some tuple ∷ slots) = IsTuple fields tuple × AreTuples fields slots
+
 -- a row of these columns at a place
 pub record IsPlaced (fields : List Field) (e : ℕ × List Value) : Type 0 where
   pub row : IsRow fields e.1

@@ -11,7 +11,7 @@ ghost use Rattle.row_codec.specs.Seen.{seen};
 ghost use Rattle.table_rows.specs.Order.{row_key};
 ghost use Rattle.table_rows.specs.Table.{first_of, has_columns, duplicate_if};
 ghost use Rattle.table_rows.specs.Standing as standing;
-ghost use Rattle.table_rows.specs.Keyed.{new_index, coming, going, compared, entered, backed_out, left, is_taken, kept};
+ghost use Rattle.table_rows.specs.Keyed.{new_index, coming, going, compared, entered, backed_out, left, relocated, is_taken, kept};
 
 use row_codec::{Cell, RowFault, RowLayout};
 use std::alloc::{AllocError, Global};
@@ -167,6 +167,14 @@ impl KeyedIndex {
             let _held = self.index.remove(&mut self.stale, place);
         }
     }
+
+    /// Puts another place at the stale key.
+    fn relocate(&mut self, place: u32)
+        requires { self.old.index.unique ≡ true }
+        ensures { self.new ≡ relocated place self.old }
+    {
+        let _held = self.index.set_place(&self.stale, place);
+    }
 }
 
 /// An index of no rows for each key.
@@ -278,4 +286,16 @@ pub(crate) fn leave(indexes: &mut [KeyedIndex], place: u32)
     };
     first.leave(place);
     leave(rest, place);
+}
+
+/// Puts another place at the stale key of each index. It takes no memory.
+pub(crate) fn relocate(indexes: &mut [KeyedIndex], place: u32)
+    requires { list_all (λ k. k.index.unique) indexes.old ≡ true }
+    ensures { indexes.new ≡ map (relocated place) indexes.old }
+{
+    let Some((first, rest)) = indexes.split_first_mut() else {
+        return;
+    };
+    first.relocate(place);
+    relocate(rest, place);
 }

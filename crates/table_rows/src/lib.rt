@@ -2,6 +2,7 @@
 #![tactic(auto)]
 
 mod changes;
+mod compact;
 mod keyed;
 mod row;
 mod rows;

@@ -3,17 +3,18 @@
 ghost use Rattle.std.specs.Prelude.{◌≡◌, ◌⊎◌, ◌<◌, None, Some, Ok, Err, true, false, is_some, length, IfOk, IfSome, OnOk, OnErr, IfErr};
 ghost use Rattle.std.specs.Option.{option_map, unwrap_or};
 ghost use Rattle.std.specs.Prelude.{[], slice_get};
+ghost use Rattle.std.specs.Int.{div_ceil};
 ghost use Rattle.row_codec.specs.declared.fault.RowFault.{RowFault};
 ghost use Rattle.row_codec.specs.Faults.{columns_fault};
 ghost use Rattle.row_codec.specs.Packing.{row_of, IsTuple};
-ghost use Rattle.table_rows.specs.Standing.{rows_in};
-ghost use Rattle.table_rows.specs.Order.{row_key, in_order};
-ghost use Rattle.table_rows.specs.Table.{no_rows, inserted, deleted, updated, row_fault, row_of_key, rows_between, primary_key, duplicate_if, has_like, CanInsert, CanUpdate, IsSchema};
+ghost use Rattle.table_rows.specs.Standing.{IsScanOf};
+ghost use Rattle.table_rows.specs.Order.{row_key};
+ghost use Rattle.table_rows.specs.Table.{no_rows, inserted, deleted, updated, row_fault, row_of_key, rows_between, primary_key, duplicate_if, has_like, CanInsert, CanUpdate, IsSchema, IsTable};
 
 use crate::keyed::KeyedIndex;
 use crate::row::{Row, Rows};
 use crate::slots::Slots;
-use crate::{changes, keyed};
+use crate::{changes, compact, keyed};
 use cow_scan::CowScan;
 use row_codec::{RowFault, RowLayout};
 use std::alloc::{AllocError, Global};
@@ -68,6 +69,13 @@ impl TableRows {
         ensures { result.now ≡ self.now.schema.fields }
     {
         self.slots.layout()
+    }
+
+    /// What holds of the table at any time. It does nothing.
+    pub fn rules(&self)
+        ensures { IsTable self.now }
+    {
+        self.slots.rules();
     }
 
     /// How many keys there are, one at least.
@@ -183,13 +191,25 @@ impl TableRows {
         }
     }
 
-    /// A scan whose blocks have the rows as they stand, whatever is changed later. The table is the
-    /// same after it, also where it runs out of memory. No row is copied.
-    pub fn share(&mut self) -> Result<CowScan, AllocError>
-        ensures scan { IfOk result (λ scan.
-            in_order (primary_key self.old.schema) (rows_in self.old.schema.fields scan) ≡ self.old.rows) }
+    /// Moves the rows to the first places, and answers in how many blocks they stand then: one for each 64
+    /// rows or part of them. The table is the same after it, also where it runs out of memory; then some
+    /// rows may have moved.
+    pub fn compact(&mut self) -> Result<u32, AllocError>
+        ensures blocks { IfOk result (λ blocks. blocks ≡ div_ceil (length self.old.rows) 64) }
         ensures kept { self.new ≡ self.old }
     {
+        compact::compact(&mut self.slots, self.indexes.as_mut_slice())?;
+        Ok(self.slots.blocks())
+    }
+
+    /// A scan whose blocks have the rows as they stand, at the first places, whatever is changed later.
+    /// Rows that stand elsewhere move there first, as by `compact`; no other row is copied. The table is
+    /// the same after it, also where it runs out of memory.
+    pub fn share(&mut self) -> Result<CowScan, AllocError>
+        ensures scan { IfOk result (IsScanOf self.old) }
+        ensures kept { self.new ≡ self.old }
+    {
+        compact::compact(&mut self.slots, self.indexes.as_mut_slice())?;
         self.slots.share()
     }
 }

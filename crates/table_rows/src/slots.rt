@@ -1,11 +1,12 @@
 //! The rows of a table by their places.
 
-ghost use Rattle.std.specs.Prelude.{◌≡◌, Some, None, IsSome, IfOk, IfSome, OnOk, OnErr};
+ghost use Rattle.std.specs.Prelude.{◌≡◌, Some, None, IsSome, MatchOption, IfOk, IfSome, OnOk, OnErr, length};
+ghost use Rattle.std.specs.Int.{div_ceil};
 ghost use Rattle.row_codec.specs.Packing.{row_of, IsTuple};
-ghost use Rattle.table_rows.specs.Held.{row_at, with_row, without_row};
+ghost use Rattle.table_rows.specs.Held.{row_at, with_row, without_row, with_moved, CanMove, ArePacked};
 ghost use Rattle.table_rows.specs.Spread as spread;
 ghost use Rattle.pane_index.specs.Blocks.{all_slots};
-ghost use Rattle.table_rows.specs.Spread.{IsSpread, held_from};
+ghost use Rattle.table_rows.specs.Spread.{IsSpread, AreTuples, held_from};
 
 use crate::row::Row;
 use cow_scan::CowScan;
@@ -133,7 +134,7 @@ impl Slots {
     }
 
     /// Frees the spare place. Out of memory, all is as before.
-    fn free_spare(&mut self) -> Result<(), AllocError>
+    pub(crate) fn free_spare(&mut self) -> Result<(), AllocError>
         ensures freed { OnOk result (self.new ≡ record self.old { ready = None }) }
         ensures kept { OnErr result (self.new ≡ self.old) }
     {
@@ -145,10 +146,42 @@ impl Slots {
         Ok(())
     }
 
+    /// The place of the last row and the first free place, where that is before it. `None` comes exactly
+    /// where the rows stand at the first places. It takes no memory.
+    pub(crate) fn next_move(&mut self) -> Option<(u32, u32)>
+        requires { self.old.ready ≡ None }
+        ensures kept { self.new ≡ self.old }
+        ensures found { MatchOption result (ArePacked self.old.held) (λ m. CanMove self.old.held m.0 m.1) }
+    {
+        let (from, to) = self.pane.next_move()?;
+        Some((from.number(), to.number()))
+    }
+
+    /// Moves a row to a free place before it. Out of memory, all is as before.
+    pub(crate) fn shift(&mut self, from: u32, to: u32) -> Result<(), AllocError>
+        requires spare { self.old.ready ≡ None }
+        requires can { CanMove self.old.held from to }
+        ensures moved { OnOk result (self.new ≡ record self.old { held = with_moved self.old.held from to }) }
+        ensures kept { OnErr result (self.new ≡ self.old) }
+    {
+        self.pane.shift(Place::new(from), Place::new(to))?;
+        Ok(())
+    }
+
+    /// In how many blocks the rows stand, where they stand at the first places.
+    pub(crate) fn blocks(&self) -> u32
+        requires spare { self.now.ready ≡ None }
+        requires packed { ArePacked self.now.held }
+        ensures { result ≡ div_ceil (length self.now.held) 64 }
+    {
+        self.pane.blocks()
+    }
+
     /// A scan whose blocks have the rows as they stand, at their places. The rows are the same after
     /// it, also where it runs out of memory.
     pub(crate) fn share(&mut self) -> Result<CowScan, AllocError>
         ensures scan { IfOk result (λ scan. held_from self.old.fields 0 (all_slots scan) ≡ self.old.held) }
+        ensures tuples { IfOk result (λ scan. AreTuples self.old.fields (all_slots scan)) }
         ensures fields { self.new.fields ≡ self.old.fields }
         ensures held { self.new.held ≡ self.old.held }
     {

@@ -4,7 +4,8 @@ use Rattle.std.proofs.lemmas.List.{take_all}
 use Rattle.tuple_block.specs.Tuples.{Tuples}
 use Rattle.table_rows.specs.Table.{Table}
 use Rattle.table_store.specs.Steps.{table_at, with_table}
-use Rattle.table_store.specs.Scans.{IsScanOf, AreScans}
+use Rattle.table_rows.specs.Standing.{IsScanOf}
+use Rattle.table_store.specs.Scans.{AreScans}
 use Rattle.table_store.proofs.StepLemmas.{with_itself}
 use Rattle.table_store.proofs.ChangeLemmas.{here_is}
 

@@ -4,7 +4,8 @@ ghost use Rattle.std.specs.Prelude.{◌≡◌, ◌⊎◌, ◌+◌, ◌<◌, ◌�
 ghost use Rattle.row_codec.specs.declared.fault.RowFault.{RowFault};
 ghost use Rattle.table_rows.specs.Order.{row_key};
 ghost use Rattle.table_rows.specs.Table.{inserted, deleted, updated, row_fault, row_of_key, primary_key};
-ghost use Rattle.table_store.specs.Scans.{IsScanOf, AreScans};
+ghost use Rattle.table_rows.specs.Standing.{IsScanOf};
+ghost use Rattle.table_store.specs.Scans.{AreScans};
 ghost use Rattle.table_store.specs.Schemas.{empty_tables};
 ghost use Rattle.table_store.specs.Steps.{table_at, with_table, changed, history};
 
@@ -155,6 +156,27 @@ impl Tables {
         self.undo.mark()
     }
 
+    /// Moves the rows of the table at a place to its first places.
+    fn compact(&mut self, at: usize) -> Result<(), AllocError>
+        requires { at < length self.old.now }
+        ensures { self.new ≡ self.old }
+    {
+        let _blocks = self.tables[at].compact()?;
+        Ok(())
+    }
+
+    /// Moves the rows of each table to its first places, n rows into n / 64 blocks, rounded up. The
+    /// tables and the changes that can be undone are the same after it, also where it runs out of memory:
+    /// what undoes a change finds its row by the key.
+    pub fn compact_all(&mut self) -> Result<(), AllocError>
+        ensures { self.new ≡ self.old }
+    {
+        for at in 0..self.tables.len() {
+            self.compact(at)?;
+        }
+        Ok(())
+    }
+
     /// A scan of the table at a place.
     fn share(&mut self, at: usize) -> Result<CowScan, AllocError>
         requires { at < length self.old.now }
@@ -164,8 +186,9 @@ impl Tables {
         self.tables[at].share()
     }
 
-    /// A scan of each table, whose blocks have its rows as they stand, whatever is changed later. The
-    /// tables are the same after it, also where it runs out of memory. No row is copied.
+    /// A scan of each table, whose blocks have its rows as they stand, n rows at the first n places,
+    /// whatever is changed later. After `compact_all` no row is copied. The tables are the same after
+    /// it, also where it runs out of memory.
     pub fn share_blocks(&mut self) -> Result<Vec<CowScan>, AllocError>
         ensures scans { IfOk result (λ scans. AreScans self.old.now scans.items) }
         ensures kept { self.new ≡ self.old }

@@ -1,10 +1,12 @@
 ghost use Rattle.std.specs.Prelude.{◌≡◌, IfOk};
 
 use super::*;
+use cow_scan::CowScan;
 use row_codec::{Field, RowFault, RowLayout};
 use std::alloc::{AllocError, Global};
 use std::test::*;
 use table_rows::{Rows, TableRows};
+use tuple_block::Block;
 use undo_log::Mark;
 use volt_catalog::ColumnNos;
 use volt_index::key_of;
@@ -94,6 +96,77 @@ fn numbers(alloc: Global, tables: &Tables, number: u16, key: usize) -> Result<i6
         return Ok(-1);
     }
     digits(alloc, tables.table(number).range(key, None, None))
+}
+
+/// Puts pairs of these numbers into the first table, and takes the first of them out again.
+fn fill(alloc: Global, tables: &mut Tables, end: i64, taken: i64) -> Result<(), RowFault> {
+    for a in 1..end {
+        put(tables, 0, a, a)?;
+    }
+    for a in 1..taken {
+        let _held = take(alloc, tables, 0, a)?;
+    }
+    Ok(())
+}
+
+/// How many tuples of a block are held.
+fn held_in(block: &Block) -> u32 {
+    let mut count = 0u32;
+    for i in 0..64u8 {
+        if block.get(i).is_some() {
+            count = count.saturating_add(1);
+        }
+    }
+    count
+}
+
+/// More blocks than a table of these tests has.
+const MOST_BLOCKS: u32 = 100;
+
+/// How many blocks of scans hold tuples, and how many tuples.
+fn counted(scans: Vec<CowScan>) -> (u32, u32) {
+    let mut blocks = 0u32;
+    let mut tuples = 0u32;
+    for mut scan in scans {
+        for _ in 0..MOST_BLOCKS {
+            let Some(block) = scan.next_block() else {
+                break
+            };
+            let held = held_in(&block);
+            blocks = blocks.saturating_add(u32::from(held > 0));
+            tuples = tuples.saturating_add(held);
+        }
+    }
+    (blocks, tuples)
+}
+
+/// Of 130 rows the first 70 are deleted: the others stand in one block, and each key finds them.
+#[test]
+fn rows_stand_in_one_block_after_compact_all(rt: HostRuntime) -> Result<(), Fail> {
+    let alloc = rt.alloc();
+    let mut tables = two_tables(alloc)?;
+    fill(alloc, &mut tables, 131, 71)?;
+    tables.compact_all()?;
+    assert_eq!(rt; counted(tables.share_blocks()?), (1, 60));
+    assert_eq!(rt; put(&mut tables, 0, 9, 130), Err(RowFault::Duplicate));
+    assert!(rt; take(alloc, &mut tables, 0, 130)?);
+    assert_eq!(rt; put(&mut tables, 0, 9, 130), Ok(()));
+    Ok(())
+}
+
+/// A statement that faults in its middle is rolled back to its own mark.
+#[test]
+fn fault_in_a_statement_is_undone(rt: HostRuntime) -> Result<(), Fail> {
+    let alloc = rt.alloc();
+    let mut tables = two_tables(alloc)?;
+    assert_eq!(rt; put(&mut tables, 0, 1, 5), Ok(()));
+    let mark = tables.begin_undo();
+    assert_eq!(rt; change(&mut tables, 0, 1, 6), Ok(true));
+    assert_eq!(rt; put(&mut tables, 0, 2, 6), Err(RowFault::Duplicate));
+    tables.roll_back(mark)?;
+    assert_eq!(rt; put(&mut tables, 0, 2, 6), Ok(()));
+    assert_eq!(rt; numbers(alloc, &tables, 0, 1)?, 1526);
+    Ok(())
 }
 
 /// Rows and indexes are as they were at each mark.

@@ -11,7 +11,7 @@ use Rattle.std.proofs.lemmas.Map.Lookups.{CmpEqualImpliesEq, exact_pairs, exact_
 use Rattle.std.proofs.lemmas.Map.Text.{is_eq-slice_cmp}
 use Rattle.std.specs.BTreeMap.{insert_entry, is_at}
 use Rattle.std.specs.BTreeSet.{insert_key}
-use Rattle.std.specs.Map.{lookup, remove_entry, keys_of}
+use Rattle.std.specs.Map.{lookup, remove_entry, set_value, keys_of}
 use Rattle.std.specs.Set.{remove_key}
 use Rattle.std.specs.Str.{bytes_eq}
 use Rattle.std.specs.Cmp.Lexicographic.{slice_cmp, nat_list_cmp_total}
@@ -202,6 +202,33 @@ pub shown_remove_unique : (es : List Tied) (key : List ℕ) (place : ℕ) (found
 shown_remove_unique es key place true tied apart is = remove_found es key place tied (sym is)
 shown_remove_unique es key place false tied apart is = sym (remove_none (is_entry key place) (map shown es) (sym (holds_unique es key place tied apart) ∙ sym is))
 
+-- ---- another place at a key of a unique index
+
+shown_set : (es : List Tied) (key : List ℕ) (place : ℕ) → AreTied true es → map shown (set_value (is_at (entry_cmp (key, 0))) es place) ≡ set_value (bytes_eq key) (map shown es) place
+shown_set [] key place tied = refl
+shown_set (e ∷ es) key place tied =
+    shown_cond (is_at (entry_cmp (key, 0)) e.0) (set_value (is_at (entry_cmp (key, 0))) es place)
+    ∙ ap₂ (λ (b : Bool) (r : List (List ℕ × ℕ)). cond b ((e.0.0, place) ∷ map shown es) (shown e ∷ r)) (at_key key e tied.0) (shown_set es key place tied.1)
+  where
+    shown_cond : (b : Bool) (more : List Tied) → map shown (cond b ((e.0, place) ∷ es) (e ∷ more)) ≡ cond b ((e.0.0, place) ∷ map shown es) (shown e ∷ map shown more)
+    shown_cond true more = refl
+    shown_cond false more = refl
+
+AreTied-set : (es : List Tied) (test : List ℕ × ℕ → Bool) (place : ℕ) → AreTied true es → AreTied true (set_value test es place)
+AreTied-set [] test place tied = tt
+AreTied-set (e ∷ es) test place tied = kept (test e.0) (set_value test es place) (AreTied-set es test place tied.1)
+  where
+    kept : (b : Bool) (more : List Tied) → AreTied true more → AreTied true (cond b ((e.0, place) ∷ es) (e ∷ more))
+    kept true more ih = (tied.0, tied.1)
+    kept false more ih = (tied.0, ih)
+
+-- where none is there, nothing changes
+pub set_none : (es : List Tied) (test : List ℕ × ℕ → Bool) (place : ℕ) → lookup test es ≡ None → es ≡ set_value test es place
+set_none [] test place none = refl
+set_none (e ∷ es) test place none =
+    let parts = cond_none (test e.0) e.1 (lookup test es) none in
+    ap (λ r. e ∷ r) (set_none es test place parts.1) ∙ sym (ap (λ b. cond b ((e.0, place) ∷ es) (e ∷ set_value test es place)) parts.0)
+
 -- ---- of entries of the map, as the calls have them
 
 -- a key's own entry has the number 0
@@ -243,6 +270,16 @@ take_unique_shows false found es new k place is tied untied sorted found-is new-
 pub take_unique_ties : (unique found : Bool) (es new : List Tied) (k : List ℕ × ℕ) → AreTied unique es → new ≡ cond found (remove_entry (is_at (entry_cmp k)) es) es → AreTied unique new
 take_unique_ties unique found es new k tied new-is =
     subst (AreTied unique) (sym new-is) (AreTied-if unique found es (remove_entry (is_at (entry_cmp k)) es) tied (AreTied-remove unique es (is_at (entry_cmp k)) tied))
+
+pub set_shows : (unique : Bool) (es new : List Tied) (k : List ℕ × ℕ) (place : ℕ) → unique ≡ true → AreTied unique es → k.1 ≡ 0 → new ≡ set_value (is_at (entry_cmp k)) es place
+    → map shown new ≡ set_value (bytes_eq k.0) (map shown es) place
+set_shows true es new k place is tied untied new-is =
+    ap (map shown) (new-is ∙ ap (λ (e : List ℕ × ℕ). set_value (is_at (entry_cmp e)) es place) (own k untied)) ∙ shown_set es k.0 place tied
+set_shows false es new k place is tied untied new-is = absurd cc
+
+pub set_ties : (unique : Bool) (es new : List Tied) (k : List ℕ × ℕ) (place : ℕ) → unique ≡ true → AreTied unique es → new ≡ set_value (is_at (entry_cmp k)) es place → AreTied unique new
+set_ties true es new k place is tied new-is = subst (AreTied true) (sym new-is) (AreTied-set es (is_at (entry_cmp k)) place tied)
+set_ties false es new k place is tied new-is = absurd cc
 
 pub take_plain_shows : (unique found : Bool) (es new : List Tied) (key : List ℕ) (place : ℕ) → unique ≡ false → AreTied unique es
     → found ≡ is_some (lookup (is_at (entry_cmp (key, place))) es) → new ≡ remove_entry (is_at (entry_cmp (key, place))) es

@@ -2,7 +2,7 @@
 use Rattle.std.specs.Prelude.{◌≡◌, ℕ, Bool, true, ◌&&◌, ◌==◌, if◌then◌else◌, List, [], map, filter, Option, Some, None}
 use Rattle.std.specs.List.{list_any}
 use Rattle.std.specs.Str.{bytes_eq}
-use Rattle.std.specs.Map.{lookup}
+use Rattle.std.specs.Map.{lookup, set_value}
 use Rattle.std.specs.Set.{remove_key}
 use Rattle.std.specs.BTreeSet.{insert_key}
 use Rattle.std.specs.List.Sorted.{IsStrictlySortedBy}
@@ -34,6 +34,10 @@ with_entry index key place = record index { entries = insert_key entry_cmp index
 -- without an entry
 abbrev pub without_entry : Contents → List ℕ → ℕ → Contents
 without_entry index key place = record index { entries = remove_key (is_entry key place) index.entries }
+
+-- another place at a key, where it has one
+abbrev pub with_place_at : Contents → List ℕ → ℕ → Contents
+with_place_at index key place = record index { entries = set_value (bytes_eq key) index.entries place }
 
 -- the place at a key, the least where there are several
 abbrev pub place_of : Contents → List ℕ → Option ℕ

@@ -6,11 +6,11 @@ ghost use Rattle.std.specs.BTreeMap.Range.{IsLeBy, IsLtBy, range_contains, entri
 ghost use Rattle.std.specs.Range.Bound.{IsForward, bound_map};
 ghost use Rattle.volt_index.specs.Entries.{entry_cmp};
 ghost use Rattle.std.specs.BTreeMap.{get, is_at, IsOrdered};
-ghost use Rattle.std.specs.Map.{remove_entry};
+ghost use Rattle.std.specs.Map.{remove_entry, set_value};
 ghost use Rattle.std.specs.declared.ops.Bound.TheVariants.{Included, Unbounded};
 ghost use Rattle.volt_index.specs.Held.{tie_of, has_place, first_place};
 ghost use Rattle.volt_index.specs.Index as index;
-ghost use Rattle.volt_index.specs.Index.{IsIndex, with_entry, without_entry, holds, place_of, clash_of, is_from, is_before, places_between};
+ghost use Rattle.volt_index.specs.Index.{IsIndex, with_entry, without_entry, with_place_at, holds, place_of, clash_of, is_from, is_before, places_between};
 
 use crate::entry::Entry;
 use crate::fault::IndexFault;
@@ -116,6 +116,16 @@ impl Index {
         }
     }
 
+    /// Gives a key of a unique index another place, and answers whether the key had one. It takes no
+    /// memory.
+    pub fn set_place(&mut self, key: &Key, place: u32) -> bool
+        requires { self.old.unique ≡ true }
+        ensures held { result ≡ is_some (place_of self.old key.now) }
+        ensures set { self.new ≡ with_place_at self.old key.now place }
+    {
+        set_unique(&mut self.map, &key.entry, place)
+    }
+
     /// The place at a key, the least where there are several. `None` exactly where the key isn't
     /// held. It takes no memory.
     pub fn get(&self, key: &Key) -> Option<u32>
@@ -156,6 +166,20 @@ fn take_unique(map: &mut BTreeMap<Entry, u32>, entry: &Entry, place: u32) -> boo
     match map.get(entry) {
         Some(held) if *held == place => map.remove(entry).is_some(),
         _ => false,
+    }
+}
+
+/// Gives the entry of a key in a unique index's map another place, where there is one.
+fn set_unique(map: &mut BTreeMap<Entry, u32>, entry: &Entry, place: u32) -> bool
+    ensures held { result ≡ is_some (get entry_cmp map.old entry.now) }
+    ensures entries { map.new.entries ≡ set_value (is_at (entry_cmp entry.now)) map.old.entries place }
+{
+    match map.get_mut(entry) {
+        Some(held) => {
+            *held = place;
+            true
+        }
+        None => false,
     }
 }
 

@@ -52,74 +52,29 @@ returns-in_err-enter-clause-kept c =
     (same_table c.args.slots.now c.ready.new.self c.args.indexes.now c.enter.new.indexes (ap (λ (s : Spread). s.fields) ready) (ap (λ (s : Spread). s.held) ready)
     (ap (map kept) c.in_err-enter.ensures.kept ∙ c.come.ensures.kept))
 
-pub returns-clause-standing : goal.returns-clause-standing
-returns-clause-standing c =
-    let row = row_of c.args.slots.now.fields c.args.tuple.now in
-    put_in_standing c.args.slots.now c.ready.new.self c.accept.new.self c.args.indexes.now c.come.new.indexes c.enter.new.indexes c.in_ok-place.place row (record {
-      spread = c.layout.ensures.rules;
-      standing = c.requires.standing;
-      fits = c.requires.tuple.row;
-      told_is = c.in_ok-come.ensures.told ∙ ap (λ fields. map (coming (row_of fields c.args.tuple.now)) c.args.indexes.now) c.layout.ensures.fields;
-      ready_is = c.in_ok-place.ensures.ready;
-      entered_is = c.in_ok-enter.ensures.entered;
-      free = c.in_ok-enter.ensures.free;
-      place_free = c.accept.ensures.free;
-      accepted = c.accept.ensures.accepted;
-    })
-
-pub returns-clause-inserted : goal.returns-clause-inserted
-returns-clause-inserted c =
-    let row = row_of c.args.slots.now.fields c.args.tuple.now in
-    put_in_table c.args.slots.now c.ready.new.self c.accept.new.self c.args.indexes.now c.come.new.indexes c.enter.new.indexes c.in_ok-place.place row (record {
-      spread = c.layout.ensures.rules;
-      standing = c.requires.standing;
-      fits = c.requires.tuple.row;
-      told_is = c.in_ok-come.ensures.told ∙ ap (λ fields. map (coming (row_of fields c.args.tuple.now)) c.args.indexes.now) c.layout.ensures.fields;
-      ready_is = c.in_ok-place.ensures.ready;
-      entered_is = c.in_ok-enter.ensures.entered;
-      free = c.in_ok-enter.ensures.free;
-      place_free = c.accept.ensures.free;
-      accepted = c.accept.ensures.accepted;
-    })
-
-pub returns-clause-back : goal.returns-clause-back
-returns-clause-back c =
-    let row = row_of c.args.slots.now.fields c.args.tuple.now in
+pub returns : goal.returns
+returns c =
     let all = c.args.indexes.now in
-    ap (λ (t : Table). deleted t (row_key (first_of (keys_of all)) row)) (put_in_table c.args.slots.now c.ready.new.self c.accept.new.self c.args.indexes.now c.come.new.indexes c.enter.new.indexes c.in_ok-place.place row (record {
-      spread = c.layout.ensures.rules;
-      standing = c.requires.standing;
-      fits = c.requires.tuple.row;
-      told_is = c.in_ok-come.ensures.told ∙ ap (λ fields. map (coming (row_of fields c.args.tuple.now)) c.args.indexes.now) c.layout.ensures.fields;
-      ready_is = c.in_ok-place.ensures.ready;
-      entered_is = c.in_ok-enter.ensures.entered;
-      free = c.in_ok-enter.ensures.free;
-      place_free = c.accept.ensures.free;
-      accepted = c.accept.ensures.accepted;
-    }))
-    ∙ insert_back c.args.slots.now all row c.layout.ensures.rules c.requires.standing c.requires.tuple.row (put_in_free c.args.slots.now c.ready.new.self c.accept.new.self c.args.indexes.now c.come.new.indexes c.enter.new.indexes c.in_ok-place.place row (record {
-      spread = c.layout.ensures.rules;
-      standing = c.requires.standing;
-      fits = c.requires.tuple.row;
-      told_is = c.in_ok-come.ensures.told ∙ ap (λ fields. map (coming (row_of fields c.args.tuple.now)) c.args.indexes.now) c.layout.ensures.fields;
-      ready_is = c.in_ok-place.ensures.ready;
-      entered_is = c.in_ok-enter.ensures.entered;
-      free = c.in_ok-enter.ensures.free;
-      place_free = c.accept.ensures.free;
-      accepted = c.accept.ensures.accepted;
-    }))
-
-pub returns-clause-free : goal.returns-clause-free
-returns-clause-free c =
     let row = row_of c.args.slots.now.fields c.args.tuple.now in
-    put_in_free c.args.slots.now c.ready.new.self c.accept.new.self c.args.indexes.now c.come.new.indexes c.enter.new.indexes c.in_ok-place.place row (record {
+    let put : IsPutIn c.args.slots.now c.ready.new.self c.accept.new.self all c.come.new.indexes c.enter.new.indexes c.in_ok-place.place row = record {
       spread = c.layout.ensures.rules;
       standing = c.requires.standing;
       fits = c.requires.tuple.row;
-      told_is = c.in_ok-come.ensures.told ∙ ap (λ fields. map (coming (row_of fields c.args.tuple.now)) c.args.indexes.now) c.layout.ensures.fields;
+      told_is = c.in_ok-come.ensures.told ∙ ap (λ fields. map (coming (row_of fields c.args.tuple.now)) all) c.layout.ensures.fields;
       ready_is = c.in_ok-place.ensures.ready;
       entered_is = c.in_ok-enter.ensures.entered;
       free = c.in_ok-enter.ensures.free;
       place_free = c.accept.ensures.free;
       accepted = c.accept.ensures.accepted;
-    })
+    } in
+    let inserted = put_in_table _ _ _ _ _ _ _ _ put in
+    let free = put_in_free _ _ _ _ _ _ _ _ put in
+    record {
+      standing = put_in_standing _ _ _ _ _ _ _ _ put;
+      inserted = inserted;
+      back = ap (λ (t : Table). deleted t (row_key (first_of (keys_of all)) row)) inserted
+          ∙ insert_back c.args.slots.now all row c.layout.ensures.rules c.requires.standing c.requires.tuple.row free;
+      free = free;
+      refused = tt;
+      kept = tt;
+    }

@@ -1,7 +1,8 @@
 use Rattle.std.proofs.Common.{◌≡◌, ◌+◌, ◌<◌, ◌++◌, List, [], ◌∷◌, length, take, suc, sym, ap, ◌∙◌, subst, arith}
 use Rattle.tuple_block.specs.Tuples.{Tuples}
 use Rattle.table_store.specs.Steps.{Store, table_at}
-use Rattle.table_store.specs.Scans.{IsScanOf, AreScans}
+use Rattle.table_rows.specs.Standing.{IsScanOf}
+use Rattle.table_store.specs.Scans.{AreScans}
 use Rattle.table_store.proofs.ScanLemmas.{scans_push}
 use Rattle.table_store.proofs.tables.Tables.share_blocks.Goals as goal
 

@@ -1,4 +1,4 @@
-use Rattle.pane_index.proofs.pane.Pane.compact.Given as goal
+use Rattle.pane_index.proofs.pane.Pane.shift.Given as goal
 
 abbrev pub ghosts-shift : goal.ghosts-shift
 ghosts-shift a = record { name = a.blank.name; parts = a.blank.parts }

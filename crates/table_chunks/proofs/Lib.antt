@@ -1,0 +1,4 @@
+pub mod LoadLemmas
+pub mod ChunkLemmas
+pub mod StoreLemmas
+pub mod ReadLemmas

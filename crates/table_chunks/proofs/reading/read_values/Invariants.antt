@@ -1,0 +1,14 @@
+use Rattle.std.proofs.Common.{◌≡◌, ◌≤◌, length, drop}
+use Rattle.volt_value.specs.Reading.{value_at}
+use Rattle.table_chunks.specs.Reading.{items_at}
+use Rattle.table_chunks.proofs.ReadLemmas.{joined}
+use Rattle.table_chunks.proofs.reading.read_values.Given as goal
+
+abbrev pub invariant-loop-left : goal.invariant-loop-left
+invariant-loop-left l = record {
+  within : l.at ≤ length l.bytes;
+  read : items_at value_at l.count l.bytes ≡ joined l.values.items l.at (items_at value_at l.left (drop l.at l.bytes));
+}
+
+abbrev pub decreases-loop-left : goal.decreases-loop-left
+decreases-loop-left l = l.left
