@@ -1,0 +1,9 @@
+pub mod Many
+pub mod Ended
+pub mod Exact
+pub mod ChunkLemmas
+pub mod Heads
+pub mod Bases
+pub mod OldBases
+pub mod Written
+pub mod RowLemmas

@@ -1,0 +1,4 @@
+pub mod Chunks
+pub mod Base
+pub mod Reading
+pub mod Writer
