@@ -1,11 +1,7 @@
--- Whether classes fit, variant by variant.
+-- Whether steps and their classes fit, variant by variant.
 use Rattle.std.proofs.Common.{◌≡◌, ℕ, Bool, List, map, Option, ap}
-use Rattle.volt_value.specs.declared.value.Value.{Value}
 use Rattle.volt_value.specs.declared.column.Class.{Class}
-use Rattle.expr_parse.specs.declared.expression.Arithmetic.{Arithmetic}
 use Rattle.sql_plan.specs.declared.expression.Scalar.{Scalar}
-use Rattle.sql_plan.specs.declared.expression.Scalar.TheOpen.{Scalar-F as s}
-use Rattle.sql_plan.specs.declared.expression.Scalar.TheVariants as scalar
 use Rattle.sql_plan.specs.declared.expression.Cond.{Cond}
 use Rattle.sql_plan.specs.declared.prepared.Prepared.{Prepared}
 use Rattle.sql_plan.specs.declared.program.ProgramStep.{ProgramStep}
@@ -13,22 +9,9 @@ use Rattle.sql_plan.specs.declared.program.ProgramStep.TheOpen.{ProgramStep-F as
 use Rattle.sql_plan.specs.declared.program.ProgramStep.TheVariants as program
 use Rattle.sql_plan.specs.declared.program.ProgramValue.{ProgramValue}
 use Rattle.sql_plan.specs.declared.program.Returned.{Returned}
-use Rattle.sql_meaning.specs.WellFormed.{gives_step, gives}
 use Rattle.sql_meaning.specs.Plans.{Names, fits_step, step_fits}
-use Rattle.sql_meaning.proofs.Trees.{fold_Literal, fold_Column, fold_Param, fold_Chain, fold_Let, fold_Sql, fold_If, fold_Abort, fold_Return, trees}
-
-module _ (columns params : List Class) (wanted : Class) where
-  pub gives_Literal : (x : Value) → gives columns params (scalar.Literal x) wanted ≡ gives_step columns params (s.Literal x) wanted
-  gives_Literal x = ap (λ f. f wanted) (fold_Literal (Class → Bool) (gives_step columns params) x)
-
-  pub gives_Column : (n : ℕ) → gives columns params (scalar.Column n) wanted ≡ gives_step columns params (s.Column n) wanted
-  gives_Column n = ap (λ f. f wanted) (fold_Column (Class → Bool) (gives_step columns params) n)
-
-  pub gives_Param : (n : ℕ) → gives columns params (scalar.Param n) wanted ≡ gives_step columns params (s.Param n) wanted
-  gives_Param n = ap (λ f. f wanted) (fold_Param (Class → Bool) (gives_step columns params) n)
-
-  pub gives_Chain : (e : Scalar) (es : List (Arithmetic × Scalar)) → gives columns params (scalar.Chain e es) wanted ≡ gives_step columns params (s.Chain (gives columns params e) (map (λ x. (x.0, gives columns params x.1)) es)) wanted
-  gives_Chain e es = ap (λ f. f wanted) (fold_Chain (Class → Bool) (gives_step columns params) e es)
+use Rattle.sql_meaning.proofs.Classes.{gives_Literal, gives_Column, gives_Param, gives_Chain}
+use Rattle.sql_meaning.proofs.Trees.{fold_Let, fold_Sql, fold_If, fold_Abort, fold_Return, trees}
 
 abbrev Fits : Type 0
 Fits = List (List Class) → Bool

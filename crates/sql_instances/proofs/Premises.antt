@@ -11,6 +11,7 @@ use Rattle.sql_meaning.specs.Database.{rows_of, AreRows, IsDatabase}
 use Rattle.sql_meaning.specs.WellFormed.{gives, is_scope, IsPrepared}
 use Rattle.sql_meaning.specs.Plans.{IsProcedure, IsPlan}
 use Rattle.sql_meaning.specs.Starter.{catalog, integers, put_row, balance_of, update_balance, total_balance, bigints, plain, add, move, on_first, plan}
+use Rattle.sql_meaning.proofs.Accounts.{is_catalog}
 use Rattle.sql_instances.proofs.Classes.{classes}
 use Rattle.sql_plan.specs.Rows.{Cells}
 use Rattle.sql_laws.proofs.Keep.Databases.{rows-none}
@@ -18,17 +19,6 @@ use Rattle.sql_scenarios.specs.Builders.{num}
 use Rattle.sql_scenarios.specs.Notes as notes
 use Rattle.sql_scenarios.specs.Accounts.{accounts, one_more, two}
 use Rattle.sql_instances.specs.Instances.{code, four, three}
-
-pub is_catalog : IsCatalog catalog
-is_catalog =
-    record {
-      few_tables = lit≤ tt;
-      few_indexes = lit≤ tt;
-      table_names = refl;
-      index_names = refl;
-      tables = refl;
-      indexes = refl;
-    }
 
 -- ---- databases
 

@@ -1,2 +1,4 @@
 pub mod Trees
 pub mod Meanings
+pub mod Classes
+pub mod Accounts

@@ -1,5 +1,6 @@
 use Rattle.std.proofs.Common.{lit<}
-use Rattle.sql_instances.proofs.Premises.{is_catalog, database-three}
+use Rattle.sql_meaning.proofs.Accounts.{is_catalog}
+use Rattle.sql_instances.proofs.Premises.{database-three}
 use Rattle.sql_meaning.specs.Starter.{catalog}
 use Rattle.sql_instances.specs.Instances.{three}
 use Rattle.sql_instances.proofs.accounts_told_by_their_shares.Goals as goal

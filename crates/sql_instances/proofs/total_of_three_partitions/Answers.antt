@@ -2,7 +2,8 @@ use Rattle.std.proofs.Common.{[], ◌∷◌, lit<}
 use Rattle.sql_meaning.specs.Starter.{catalog, total_balance}
 use Rattle.sql_scenarios.specs.Builders.{ids}
 use Rattle.sql_instances.specs.Instances.{three}
-use Rattle.sql_instances.proofs.Premises.{is_catalog, database-three, total_balance-prepared}
+use Rattle.sql_meaning.proofs.Accounts.{is_catalog}
+use Rattle.sql_instances.proofs.Premises.{database-three, total_balance-prepared}
 use Rattle.sql_instances.proofs.total_of_three_partitions.Goals as goal
 
 pub returns : goal.returns

@@ -3,7 +3,8 @@ use Rattle.sql_meaning.specs.Starter.{catalog}
 use Rattle.sql_scenarios.specs.Accounts.{one_more}
 use Rattle.sql_scenarios.specs.Builders.{counted}
 use Rattle.sql_instances.specs.Instances.{four, four_more}
-use Rattle.sql_instances.proofs.Premises.{is_catalog, database-four, one_more-prepared}
+use Rattle.sql_meaning.proofs.Accounts.{is_catalog}
+use Rattle.sql_instances.proofs.Premises.{database-four, one_more-prepared}
 use Rattle.sql_instances.proofs.update_of_three_partitions.Goals as goal
 
 pub returns : goal.returns

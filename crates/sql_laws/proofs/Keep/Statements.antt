@@ -31,6 +31,7 @@ use Rattle.sql_meaning.specs.Changes.{values_of, inserted_row, inserted, Fate, S
 use Rattle.sql_meaning.specs.Selects.{selected}
 use Rattle.sql_meaning.specs.Statements.{is_here, insert_means, change_means, action_means, means}
 use Rattle.sql_meaning.specs.WellFormed.{give_each, is_that_column, keep, IsInsert, IsUpdate, IsAction, IsPrepared}
+use Rattle.sql_meaning.proofs.Classes.{give_each-length}
 use Rattle.sql_laws.proofs.Plain.Orders.{map-among}
 use Rattle.sql_laws.proofs.Plain.Judgements.{first_of}
 use Rattle.sql_laws.proofs.Fits.{part_column, table_rules}
@@ -66,12 +67,6 @@ pub new_row-is : (table : Table) (values : List (Result Value Fault)) (new : Cel
 new_row-is table values new same e =
     let are = cells_are table 0 table.columns values new same e in
     and_from (length new == length table.columns) (list_all (λ c. is_ok (taken table c.0.0 c.0.1 c.1)) (in_columns table new)) (eq-eqb (length new) (length table.columns) are.0) are.1
-
-give_each-length : (columns params : List Class) (es : List Scalar) (cs : List Class) → give_each columns params es cs ≡ true → length es ≡ length cs
-give_each-length columns params [] [] e = refl
-give_each-length columns params [] (c ∷ cs) e = absurd (cc)
-give_each-length columns params (x ∷ es) [] e = absurd (cc)
-give_each-length columns params (x ∷ es) (c ∷ cs) e = ap (λ (k : ℕ). suc k) (give_each-length columns params es cs (and_parts _ (give_each columns params es cs) e).1)
 
 length-map : {A B : Type 0} (f : A → B) (xs : List A) → length (map f xs) ≡ length xs
 length-map f [] = refl

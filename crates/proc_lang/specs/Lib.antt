@@ -1,0 +1,9 @@
+pub mod Faults
+pub mod Drafts
+pub mod Values
+pub mod Steps
+pub mod Parameters
+pub mod Bodies
+pub mod Partition
+pub mod Compiled
+pub mod Laws

@@ -1,0 +1,3 @@
+pub mod GoneLemmas
+pub mod StepLemmas
+pub mod RestLemmas

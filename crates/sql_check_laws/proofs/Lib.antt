@@ -1,0 +1,10 @@
+pub mod Columns
+pub mod Fine
+pub mod Expressions
+pub mod Distribution
+pub mod Writes
+pub mod Selects
+pub mod Groups
+pub mod Shapes
+pub mod Accepted
+pub mod Examples
