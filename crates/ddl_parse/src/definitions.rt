@@ -179,6 +179,8 @@ pub fn ddl(alloc: Global, tokens: &mut Tokens<'_>) -> Result<Ddl, Fault>
     ensures { Reads (parse spec.ddl tokens.old) result tokens.new }
 {
     let found = definition(alloc, tokens)?;
-    tokens.expect(Kind::Semicolon)?;
-    Ok(found)
+    match tokens.expect(Kind::Semicolon) {
+        Ok(()) => Ok(found),
+        Err(fault) => Err(fault.after(found)),
+    }
 }

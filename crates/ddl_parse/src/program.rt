@@ -3,6 +3,8 @@
 ghost use Rattle.std.specs.Prelude.{◌≡◌};
 ghost use Rattle.sql_grammar.specs.Grammar.{parse, at};
 ghost use Rattle.expr_parse.specs.Expressions.{name, before};
+ghost use Rattle.expr_parse.specs.Expressions as expressions;
+ghost use Rattle.sql_parse.specs.Statements as statements;
 ghost use Rattle.expr_parse.specs.Reads.{Reads};
 ghost use Rattle.ddl_parse.specs.NestsSteps.{NestsSteps};
 ghost use Rattle.ddl_parse.specs.Procedures as spec;
@@ -10,7 +12,7 @@ ghost use Rattle.ddl_parse.specs.Procedures as spec;
 use crate::procedure::{ReturnText, StepText};
 use expr_parse::{ColumnName, Expr, Fault, Tokens, comma_list, expr};
 use sql_grammar::Kind;
-use sql_parse::stmt;
+use sql_parse::{Stmt, stmt};
 use sqlite_items::Items;
 use std::alloc::Global;
 use volt_value::Text;
@@ -83,6 +85,18 @@ fn message(alloc: Global, tokens: &mut Tokens<'_>) -> Result<Text, Fault>
     Ok(text)
 }
 
+/// `expr ";"`.
+#[tactic(auto, using(expr_parse::proofs::Steps::steps))]
+fn closed_expr(alloc: Global, tokens: &mut Tokens<'_>, depth: usize) -> Result<Expr, Fault>
+    ensures { Reads (parse (before (expressions.expr depth) Kind.Semicolon) tokens.old) result tokens.new }
+{
+    let value = expr(alloc, tokens, depth)?;
+    match tokens.expect(Kind::Semicolon) {
+        Ok(()) => Ok(value),
+        Err(fault) => Err(fault.after(value)),
+    }
+}
+
 /// `name "=" expr ";"`, behind LET.
 #[tactic(auto, using(expr_parse::proofs::Steps::steps), unfolding(crate::specs::Procedures::assigned))]
 fn assigned(alloc: Global, tokens: &mut Tokens<'_>, depth: usize) -> Result<StepText, Fault>
@@ -90,9 +104,20 @@ fn assigned(alloc: Global, tokens: &mut Tokens<'_>, depth: usize) -> Result<Step
 {
     let variable = tokens.name(alloc)?;
     tokens.expect(Kind::Equal)?;
-    let value = expr(alloc, tokens, depth)?;
-    tokens.expect(Kind::Semicolon)?;
+    let value = closed_expr(alloc, tokens, depth)?;
     Ok(StepText::Let { variable, value })
+}
+
+/// `stmt ";"`.
+#[tactic(auto, using(expr_parse::proofs::Steps::steps))]
+fn closed_stmt(alloc: Global, tokens: &mut Tokens<'_>, depth: usize) -> Result<Stmt, Fault>
+    ensures { Reads (parse (before (statements.stmt depth) Kind.Semicolon) tokens.old) result tokens.new }
+{
+    let statement = stmt(alloc, tokens, depth)?;
+    match tokens.expect(Kind::Semicolon) {
+        Ok(()) => Ok(statement),
+        Err(fault) => Err(fault.after(statement)),
+    }
 }
 
 /// `[name "="] stmt ";"`, behind SQL.
@@ -101,8 +126,7 @@ fn executed(alloc: Global, tokens: &mut Tokens<'_>, depth: usize) -> Result<Step
     ensures { Reads (parse (spec.executed depth) tokens.old) result tokens.new }
 {
     let result = result_name(alloc, tokens)?;
-    let statement = stmt(alloc, tokens, depth)?;
-    tokens.expect(Kind::Semicolon)?;
+    let statement = closed_stmt(alloc, tokens, depth)?;
     Ok(StepText::Sql { result, statement })
 }
 
@@ -165,15 +189,26 @@ impl<F: Fn(Global, &mut Tokens<'_>, usize) -> Result<Items<StepText>, Fault>> St
         ensures { Reads (parse (spec.chosen self.now.depth (spec.steps self.now.depth)) tokens.old) result tokens.new }
     {
         let condition = expr(self.alloc, tokens, self.depth)?;
-        tokens.expect(Kind::Then)?;
-        let steps = self.inner(tokens)?;
-        let otherwise = self.otherwise(tokens)?;
-        ended(tokens)?;
-        Ok(StepText::If {
+        if let Err(fault) = tokens.expect(Kind::Then) {
+            return Err(fault.after(condition));
+        }
+        let steps = match self.inner(tokens) {
+            Ok(steps) => steps,
+            Err(fault) => return Err(fault.after(condition)),
+        };
+        let otherwise = match self.otherwise(tokens) {
+            Ok(otherwise) => otherwise,
+            Err(fault) => return Err(fault.after(condition).after(steps)),
+        };
+        let step = StepText::If {
             condition,
             steps,
             otherwise,
-        })
+        };
+        match ended(tokens) {
+            Ok(()) => Ok(step),
+            Err(fault) => Err(fault.after(step)),
+        }
     }
 
     /// `name IN name DO {step} END ";"`, behind FOR.
@@ -187,8 +222,11 @@ impl<F: Fn(Global, &mut Tokens<'_>, usize) -> Result<Items<StepText>, Fault>> St
         let result = tokens.name(self.alloc)?;
         tokens.expect(Kind::Do)?;
         let steps = self.inner(tokens)?;
-        ended(tokens)?;
-        Ok(StepText::For { row, result, steps })
+        let step = StepText::For { row, result, steps };
+        match ended(tokens) {
+            Ok(()) => Ok(step),
+            Err(fault) => Err(fault.after(step)),
+        }
     }
 
     /// A step.

@@ -1,41 +1,14 @@
 //! Definitions and procedures, read and refused. The places of refusals are counted by hand.
 
-ghost use Rattle.std.specs.Prelude.{◌<◌, ◌^◌, length};
-
 use crate::*;
 use std::alloc::Global;
 use std::test::Fail;
 use volt_text::lex;
 
-/// The statements of a text, one behind another, as they are written for debugging.
-fn all_of(alloc: Global, text: &str) -> Result<Vec<String>, Fail> {
-    if text.len() >= 0x1_0000_0000 {
-        return Err("too long".into());
-    }
-    let tokens = match lex(alloc, text) {
-        Ok(tokens) => tokens,
-        Err(_) => return Err("not lexed".into()),
-    };
-    let mut found = Vec::new(alloc);
-    let mut from = 0;
-    for _turn in 0..tokens.len() {
-        if from >= tokens.len() {
-            return Ok(found);
-        }
-        match parse_ddl(alloc, text, &tokens, from) {
-            Ok((ddl, next)) => {
-                found.push(format!(in alloc; "{ddl:?}")?)?;
-                from = next;
-            }
-            Err(_) => return Err("refused".into()),
-        }
-    }
-    Ok(found)
-}
-
-/// Where a text is refused, or how many of its tokens its first statement has.
-fn answer(alloc: Global, text: &str) -> Result<(bool, usize), Fail> {
-    if text.len() >= 0x1_0000_0000 {
+/// The definition that a text begins with, and the number of the token behind it; or none, and the
+/// number of the token at which it is refused.
+fn first_of(alloc: Global, text: &str) -> Result<(Option<Ddl>, usize), Fail> {
+    if text.len() > 100_000 {
         return Err("too long".into());
     }
     let tokens = match lex(alloc, text) {
@@ -43,15 +16,35 @@ fn answer(alloc: Global, text: &str) -> Result<(bool, usize), Fail> {
         Err(_) => return Err("not lexed".into()),
     };
     match parse_ddl(alloc, text, &tokens, 0) {
-        Ok((_, next)) => Ok((true, next)),
-        Err(ParseFault::Syntax(place)) => Ok((false, place as usize)),
+        Ok((ddl, next)) => Ok((Some(ddl), next)),
+        Err(ParseFault::Syntax(place)) => Ok((None, place as usize)),
         Err(ParseFault::NoMemory) => Err("out of memory".into()),
     }
 }
 
-#[test]
-fn the_starter_catalog_is_read(rt: HostRuntime) -> Result<(), Fail> {
-    let text = "
+/// How many definitions a text has, one behind another.
+fn count_of(alloc: Global, text: &str) -> Result<usize, Fail> {
+    if text.len() > 100_000 {
+        return Err("too long".into());
+    }
+    let tokens = match lex(alloc, text) {
+        Ok(tokens) => tokens,
+        Err(_) => return Err("not lexed".into()),
+    };
+    let mut from = 0;
+    for count in 0..tokens.len() {
+        if from >= tokens.len() {
+            return Ok(count);
+        }
+        match parse_ddl(alloc, text, &tokens, from) {
+            Ok((_, next)) => from = next,
+            Err(_) => return Err("refused".into()),
+        }
+    }
+    Ok(tokens.len())
+}
+
+const STARTER: &str = "
 CREATE TABLE acct (id BIGINT NOT NULL, bal BIGINT NOT NULL, PRIMARY KEY (id));
 PARTITION TABLE acct ON COLUMN id;
 CREATE PROCEDURE Put PARTITION ON TABLE acct COLUMN id PARAMETER 0 AS INSERT INTO acct VALUES (?, ?);
@@ -73,79 +66,97 @@ CREATE PROCEDURE Move AS PROGRAM (src BIGINT, dst BIGINT, n BIGINT) BEGIN
   RETURN FIRST(r.bal) - :n;
 END;
 CREATE PROCEDURE Total AS SELECT SUM(bal) FROM acct;";
-    let found = all_of(rt.alloc(), text)?;
-    assert_eq!(rt; found.len(), 7);
+
+#[test]
+fn the_starter_catalog_is_read(rt: HostRuntime) -> Result<(), Fail> {
+    assert_eq!(rt; count_of(rt.alloc(), STARTER)?, 7);
     Ok(())
 }
+
+/// The place of the first text whose first definition doesn't end there, or that isn't refused there.
+fn first_wrong(
+    alloc: Global,
+    cases: &[(&str, usize)],
+    is_read: bool,
+) -> Result<Option<usize>, Fail> {
+    for i in 0..cases.len() {
+        let (text, wanted) = &cases[i];
+        let (found, place) = first_of(alloc, *text)?;
+        if found.is_some() != is_read || place != *wanted {
+            return Ok(Some(i));
+        }
+    }
+    Ok(None)
+}
+
+/// Texts with the number of the token at which they are refused.
+const REFUSED: [(&str, usize); 21] = [
+    ("", 0),
+    ("SELECT a FROM t;", 0),
+    ("CREATE", 1),
+    ("CREATE TABLE and (a INTEGER);", 2),
+    ("CREATE TABLE t ();", 4),
+    ("CREATE TABLE t (a);", 5),
+    ("CREATE TABLE t (a INTEGER NOT);", 7),
+    ("CREATE TABLE t (a VARCHAR(9 BYTES) PRIMARY);", 11),
+    ("CREATE TABLE t (a VARCHAR(9223372036854775808));", 7),
+    ("CREATE TABLE t (CONSTRAINT k (a));", 6),
+    ("CREATE UNIQUE TABLE t (a INTEGER);", 2),
+    ("CREATE INDEX i ON t (a)", 8),
+    ("PARTITION TABLE t ON a;", 4),
+    (
+        "CREATE PROCEDURE p PARTITION ON TABLE t COLUMN c PARAMETER AS DELETE FROM t;",
+        10,
+    ),
+    ("CREATE PROCEDURE p AS PROGRAM (a) BEGIN END;", 7),
+    ("CREATE PROCEDURE p AS PROGRAM () BEGIN LET x = 1; END", 14),
+    (
+        "CREATE PROCEDURE p AS PROGRAM () BEGIN SQL r DELETE FROM t; END;",
+        10,
+    ),
+    (
+        "CREATE PROCEDURE p AS PROGRAM () BEGIN IF a THEN ELSE ELSE END; END;",
+        12,
+    ),
+    (
+        "CREATE PROCEDURE p AS PROGRAM () BEGIN FOR x IN r END; END;",
+        12,
+    ),
+    ("CREATE PROCEDURE p AS PROGRAM () BEGIN ABORT a; END;", 9),
+    (
+        "CREATE PROCEDURE p AS PROGRAM () BEGIN RETURN a b; END;",
+        10,
+    ),
+];
 
 #[test]
 fn refusals_have_places(rt: HostRuntime) -> Result<(), Fail> {
-    let refused = [
-        ("", 0),
-        ("SELECT a FROM t;", 0),
-        ("CREATE", 1),
-        ("CREATE TABLE and (a INTEGER);", 2),
-        ("CREATE TABLE t ();", 4),
-        ("CREATE TABLE t (a);", 5),
-        ("CREATE TABLE t (a INTEGER NOT);", 7),
-        ("CREATE TABLE t (a VARCHAR(9 BYTES) PRIMARY);", 11),
-        ("CREATE TABLE t (a VARCHAR(9223372036854775808));", 7),
-        ("CREATE TABLE t (CONSTRAINT k (a));", 6),
-        ("CREATE UNIQUE TABLE t (a INTEGER);", 2),
-        ("CREATE INDEX i ON t (a)", 8),
-        ("PARTITION TABLE t ON a;", 4),
-        (
-            "CREATE PROCEDURE p PARTITION ON TABLE t COLUMN c PARAMETER AS DELETE FROM t;",
-            10,
-        ),
-        ("CREATE PROCEDURE p AS PROGRAM (a) BEGIN END;", 7),
-        ("CREATE PROCEDURE p AS PROGRAM () BEGIN LET x = 1; END", 14),
-        (
-            "CREATE PROCEDURE p AS PROGRAM () BEGIN SQL r DELETE FROM t; END;",
-            10,
-        ),
-        (
-            "CREATE PROCEDURE p AS PROGRAM () BEGIN IF a THEN ELSE ELSE END; END;",
-            12,
-        ),
-        (
-            "CREATE PROCEDURE p AS PROGRAM () BEGIN FOR x IN r END; END;",
-            12,
-        ),
-        ("CREATE PROCEDURE p AS PROGRAM () BEGIN ABORT a; END;", 9),
-        (
-            "CREATE PROCEDURE p AS PROGRAM () BEGIN RETURN a b; END;",
-            10,
-        ),
-    ];
-    for (text, place) in refused {
-        assert_eq!(rt; answer(rt.alloc(), text)?, (false, place));
-    }
+    assert_eq!(rt; first_wrong(rt.alloc(), &REFUSED, false)?, None);
     Ok(())
 }
 
+/// Texts with the number of the token behind their first definition.
+const READ: [(&str, usize); 6] = [
+    (
+        "create table t (a tinyint, constraint k primary key (a, b)); and",
+        18,
+    ),
+    ("CREATE UNIQUE INDEX i ON t (a, b); ;", 12),
+    ("PARTITION TABLE t ON COLUMN c; )", 7),
+    ("CREATE PROCEDURE p AS DELETE FROM t; DELETE", 8),
+    (
+        "CREATE PROCEDURE p AS PROGRAM () BEGIN RETURN; RETURN r; RETURN a, 1; END; END",
+        20,
+    ),
+    (
+        "CREATE PROCEDURE p AS PROGRAM () BEGIN FOR x IN r DO SQL DELETE FROM t; END; IF 1 = 1 THEN ELSE END; END;",
+        30,
+    ),
+];
+
 #[test]
 fn what_comes_behind_is_left(rt: HostRuntime) -> Result<(), Fail> {
-    let read = [
-        (
-            "create table t (a tinyint, constraint k primary key (a, b)); and",
-            18,
-        ),
-        ("CREATE UNIQUE INDEX i ON t (a, b); ;", 12),
-        ("PARTITION TABLE t ON COLUMN c; )", 7),
-        ("CREATE PROCEDURE p AS DELETE FROM t; DELETE", 8),
-        (
-            "CREATE PROCEDURE p AS PROGRAM () BEGIN RETURN; RETURN r; RETURN a, 1; END; END",
-            20,
-        ),
-        (
-            "CREATE PROCEDURE p AS PROGRAM () BEGIN FOR x IN r DO SQL DELETE FROM t; END; IF 1 = 1 THEN ELSE END; END;",
-            30,
-        ),
-    ];
-    for (text, next) in read {
-        assert_eq!(rt; answer(rt.alloc(), text)?, (true, next));
-    }
+    assert_eq!(rt; first_wrong(rt.alloc(), &READ, true)?, None);
     Ok(())
 }
 
@@ -164,26 +175,79 @@ fn nested(alloc: Global, depth: usize) -> Result<String, Fail> {
     Ok(text)
 }
 
-#[test]
-fn steps_nest_a_hundred_deep(rt: HostRuntime) -> Result<(), Fail> {
-    let deep = nested(rt.alloc(), 99)?;
-    assert_eq!(rt; answer(rt.alloc(), &deep)?, (true, 8 + 99 * 7 + 4));
-    let deeper = nested(rt.alloc(), 100)?;
-    assert_eq!(rt; answer(rt.alloc(), &deeper)?, (false, 8 + 100 * 5));
-    Ok(())
+/// Whether a program of steps that nest so deep is read, and the number of the token where that ends.
+fn nested_answer(alloc: Global, depth: usize) -> Result<(bool, usize), Fail> {
+    let text = nested(alloc, depth)?;
+    let (found, place) = first_of(alloc, text.as_str())?;
+    Ok((found.is_some(), place))
 }
 
 #[test]
-fn trees_hold_what_is_written(rt: HostRuntime) -> Result<(), Fail> {
-    let text = "
-CREATE TABLE t (a TINYINT, b SMALLINT NOT NULL, c INTEGER PRIMARY KEY, d VARCHAR(9 BYTES) NOT NULL PRIMARY KEY);
-CREATE TABLE u (a BIGINT, PRIMARY KEY (a), CONSTRAINT k PRIMARY KEY (a, b));
-CREATE INDEX i ON t (a, b);
-CREATE UNIQUE INDEX j ON t (c);
-PARTITION TABLE t ON COLUMN a;
-CREATE PROCEDURE p PARTITION ON TABLE t COLUMN a AS DELETE FROM t;
-CREATE PROCEDURE q PARTITION ON TABLE t COLUMN a PARAMETER 3 AS PROGRAM () BEGIN END;
-CREATE PROCEDURE r AS PROGRAM (a TINYINT, b VARCHAR(7)) BEGIN
+fn steps_nest_a_hundred_deep(rt: HostRuntime) -> Result<(), Fail> {
+    assert_eq!(rt; nested_answer(rt.alloc(), 99)?, (true, 8 + 99 * 7 + 4));
+    assert_eq!(rt; nested_answer(rt.alloc(), 100)?, (false, 8 + 100 * 5));
+    Ok(())
+}
+
+/// The definition that a text begins with, as it is written for debugging.
+fn tree(alloc: Global, text: &str) -> Result<String, Fail> {
+    match first_of(alloc, text)? {
+        (Some(ddl), _) => Ok(format!(in alloc; "{ddl:?}")?),
+        (None, _) => Err("refused".into()),
+    }
+}
+
+/// Definitions with their trees.
+const TREES: [(&str, &str); 8] = [
+    (
+        "CREATE TABLE t (a TINYINT, b SMALLINT NOT NULL, c INTEGER PRIMARY KEY, d VARCHAR(9 BYTES) NOT NULL PRIMARY KEY);",
+        "CreateTable(CreateTable { name: Text { held: \"t\" }, items: Items { items: \
+         [Column(ColumnText { name: Text { held: \"a\" }, kind: Tinyint, not_null: false, \
+         primary_key: false }), Column(ColumnText { name: Text { held: \"b\" }, kind: \
+         Smallint, not_null: true, primary_key: false }), Column(ColumnText { name: Text { \
+         held: \"c\" }, kind: Integer, not_null: false, primary_key: true }), \
+         Column(ColumnText { name: Text { held: \"d\" }, kind: Varchar(9), not_null: true, \
+         primary_key: true })] } })",
+    ),
+    (
+        "CREATE TABLE u (a BIGINT, PRIMARY KEY (a), CONSTRAINT k PRIMARY KEY (a, b));",
+        "CreateTable(CreateTable { name: Text { held: \"u\" }, items: Items { items: \
+         [Column(ColumnText { name: Text { held: \"a\" }, kind: Bigint, not_null: false, \
+         primary_key: false }), PrimaryKey { constraint: None, columns: Items { items: [Text \
+         { held: \"a\" }] } }, PrimaryKey { constraint: Some(Text { held: \"k\" }), columns: \
+         Items { items: [Text { held: \"a\" }, Text { held: \"b\" }] } }] } })",
+    ),
+    (
+        "CREATE INDEX i ON t (a, b);",
+        "CreateIndex(CreateIndex { name: Text { held: \"i\" }, unique: false, table: Text { \
+         held: \"t\" }, columns: Items { items: [Text { held: \"a\" }, Text { held: \"b\" }] \
+         } })",
+    ),
+    (
+        "CREATE UNIQUE INDEX j ON t (c);",
+        "CreateIndex(CreateIndex { name: Text { held: \"j\" }, unique: true, table: Text { \
+         held: \"t\" }, columns: Items { items: [Text { held: \"c\" }] } })",
+    ),
+    (
+        "PARTITION TABLE t ON COLUMN a;",
+        "PartitionTable(PartitionTable { table: Text { held: \"t\" }, column: Text { held: \
+         \"a\" } })",
+    ),
+    (
+        "CREATE PROCEDURE p PARTITION ON TABLE t COLUMN a AS DELETE FROM t;",
+        "CreateProcedure(ProcText { name: Text { held: \"p\" }, partition: Some(ProcPartition \
+         { table: Text { held: \"t\" }, column: Text { held: \"a\" }, parameter: 0 }), body: \
+         Statement(Delete(Delete { table: Text { held: \"t\" }, filter: None })) })",
+    ),
+    (
+        "CREATE PROCEDURE q PARTITION ON TABLE t COLUMN a PARAMETER 3 AS PROGRAM () BEGIN END;",
+        "CreateProcedure(ProcText { name: Text { held: \"q\" }, partition: Some(ProcPartition \
+         { table: Text { held: \"t\" }, column: Text { held: \"a\" }, parameter: 3 }), body: \
+         Program(ProgramText { parameters: Items { items: [] }, steps: Items { items: [] } }) \
+         })",
+    ),
+    (
+        "CREATE PROCEDURE r AS PROGRAM (a TINYINT, b VARCHAR(7)) BEGIN
   LET v = 1;
   SQL DELETE FROM t;
   SQL s = DELETE FROM t;
@@ -193,34 +257,7 @@ CREATE PROCEDURE r AS PROGRAM (a TINYINT, b VARCHAR(7)) BEGIN
   RETURN (s);
   RETURN t.s;
   RETURN s, 4;
-END;";
-    let wanted = [
-        "CreateTable(CreateTable { name: Text { held: \"t\" }, items: Items { items: \
-         [Column(ColumnText { name: Text { held: \"a\" }, kind: Tinyint, not_null: false, \
-         primary_key: false }), Column(ColumnText { name: Text { held: \"b\" }, kind: \
-         Smallint, not_null: true, primary_key: false }), Column(ColumnText { name: Text { \
-         held: \"c\" }, kind: Integer, not_null: false, primary_key: true }), \
-         Column(ColumnText { name: Text { held: \"d\" }, kind: Varchar(9), not_null: true, \
-         primary_key: true })] } })",
-        "CreateTable(CreateTable { name: Text { held: \"u\" }, items: Items { items: \
-         [Column(ColumnText { name: Text { held: \"a\" }, kind: Bigint, not_null: false, \
-         primary_key: false }), PrimaryKey { constraint: None, columns: Items { items: [Text \
-         { held: \"a\" }] } }, PrimaryKey { constraint: Some(Text { held: \"k\" }), columns: \
-         Items { items: [Text { held: \"a\" }, Text { held: \"b\" }] } }] } })",
-        "CreateIndex(CreateIndex { name: Text { held: \"i\" }, unique: false, table: Text { \
-         held: \"t\" }, columns: Items { items: [Text { held: \"a\" }, Text { held: \"b\" }] \
-         } })",
-        "CreateIndex(CreateIndex { name: Text { held: \"j\" }, unique: true, table: Text { \
-         held: \"t\" }, columns: Items { items: [Text { held: \"c\" }] } })",
-        "PartitionTable(PartitionTable { table: Text { held: \"t\" }, column: Text { held: \
-         \"a\" } })",
-        "CreateProcedure(ProcText { name: Text { held: \"p\" }, partition: Some(ProcPartition \
-         { table: Text { held: \"t\" }, column: Text { held: \"a\" }, parameter: 0 }), body: \
-         Statement(Delete(Delete { table: Text { held: \"t\" }, filter: None })) })",
-        "CreateProcedure(ProcText { name: Text { held: \"q\" }, partition: Some(ProcPartition \
-         { table: Text { held: \"t\" }, column: Text { held: \"a\" }, parameter: 3 }), body: \
-         Program(ProgramText { parameters: Items { items: [] }, steps: Items { items: [] } }) \
-         })",
+END;",
         "CreateProcedure(ProcText { name: Text { held: \"r\" }, partition: None, body: \
          Program(ProgramText { parameters: Items { items: [ParameterText { name: Text { held: \
          \"a\" }, kind: Tinyint }, ParameterText { name: Text { held: \"b\" }, kind: \
@@ -238,11 +275,13 @@ END;";
          column: Text { held: \"s\" } })] })), Return(Values(Items { items: \
          [Column(ColumnName { table: None, column: Text { held: \"s\" } }), Number(4)] }))] } \
          }) })",
-    ];
-    let found = all_of(rt.alloc(), text)?;
-    assert_eq!(rt; found.len(), wanted.len());
-    for i in 0..wanted.len() {
-        assert_eq!(rt; found[i].as_str(), wanted[i]);
+    ),
+];
+
+#[test]
+fn trees_hold_what_is_written(rt: HostRuntime) -> Result<(), Fail> {
+    for (text, wanted) in TREES {
+        assert_eq!(rt; tree(rt.alloc(), text)?.as_str(), wanted);
     }
     Ok(())
 }

@@ -142,8 +142,12 @@ module _ (depth : ℕ) (inner : Level → G Expr) where
   null_test = map (λ negated. λ x. e.IsNull x negated) (alt (skip k.Not (is k.Null true)) (is k.Null false))
 
   -- sum AND sum
+  abbrev pub range : G (Expr × Expr)
+  range = seq sum (skip k.And sum)
+
+  -- BETWEEN's sum AND sum
   unfoldable pub between : Bool → G (Expr → Expr)
-  between negated = map (λ p. λ x. e.Between x p.0 p.1 negated) (seq sum (skip k.And sum))
+  between negated = map (λ p. λ x. e.Between x p.0 p.1 negated) range
 
   -- sum {"," sum}
   unfoldable pub sums : G (List Expr)

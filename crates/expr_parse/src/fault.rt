@@ -38,6 +38,14 @@ impl Fault {
             Fault::NoMemory => ParseFault::NoMemory,
         }
     }
+
+    /// This fault, where something was read before it, which is dropped. A function that drops a tree
+    /// itself is dear to prove.
+    pub fn after<T: Drop>(self, _read: T) -> Fault
+        ensures { result ≡ self }
+    {
+        self
+    }
 }
 
 impl From<AllocError> for Fault {

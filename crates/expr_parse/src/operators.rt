@@ -103,7 +103,13 @@ pub fn is_in(
 fn boxed(alloc: Global, left: Expr, right: Expr) -> Result<(Boxed<Expr>, Boxed<Expr>), AllocError>
     ensures { IfOk result (λ boxes. (boxes.0 ≡ left) × (boxes.1 ≡ right)) }
 {
-    Ok((Boxed::new(alloc, left)?, Boxed::new(alloc, right)?))
+    match Boxed::new(alloc, left) {
+        Ok(left) => Ok((left, Boxed::new(alloc, right)?)),
+        Err(error) => {
+            drop(right);
+            Err(error)
+        }
+    }
 }
 
 pub fn calculate(
@@ -139,9 +145,17 @@ pub fn between(
 ) -> Result<Expr, AllocError>
     ensures { IfOk result (λ e. e ≡ Expr.Between value low high negated) }
 {
+    let value = match Boxed::new(alloc, value) {
+        Ok(value) => value,
+        Err(error) => {
+            drop(low);
+            drop(high);
+            return Err(error);
+        }
+    };
     let (low, high) = boxed(alloc, low, high)?;
     Ok(Expr::Between {
-        value: Boxed::new(alloc, value)?,
+        value,
         low,
         high,
         negated,

@@ -1,7 +1,7 @@
 //! The rules of expressions.
 
 ghost use Rattle.std.specs.Prelude.{◌≡◌};
-ghost use Rattle.sql_grammar.specs.Grammar.{parse, at};
+ghost use Rattle.sql_grammar.specs.Grammar.{parse, at, skip};
 ghost use Rattle.expr_parse.specs.Reads.{Reads, applied};
 ghost use Rattle.expr_parse.specs.Nests.{Nests};
 ghost use Rattle.expr_parse.specs.Expressions as spec;
@@ -49,8 +49,10 @@ impl<F: Fn(Global, &mut Tokens<'_>, usize, Level) -> Result<Expr, Fault>> Rules<
     {
         tokens.open(self.depth, Kind::LeftParen)?;
         let inner = self.inner(tokens, Level::Whole)?;
-        tokens.expect(Kind::RightParen)?;
-        Ok(parenthesize(self.alloc, inner)?)
+        match tokens.expect(Kind::RightParen) {
+            Ok(()) => Ok(parenthesize(self.alloc, inner)?),
+            Err(fault) => Err(fault.after(inner)),
+        }
     }
 
     /// An expression in parentheses, a literal, or what begins with a name, `":"`, ROWS or FIRST.
@@ -102,7 +104,10 @@ impl<F: Fn(Global, &mut Tokens<'_>, usize, Level) -> Result<Expr, Fault>> Rules<
             let Some(operator) = scaling(tokens) else {
                 return Ok(left);
             };
-            let right = self.signed(tokens)?;
+            let right = match self.signed(tokens) {
+                Ok(right) => right,
+                Err(fault) => return Err(fault.after(left)),
+            };
             left = calculate(self.alloc, operator, left, right)?;
         }
         Ok(left)
@@ -119,7 +124,10 @@ impl<F: Fn(Global, &mut Tokens<'_>, usize, Level) -> Result<Expr, Fault>> Rules<
             let Some(operator) = adding(tokens) else {
                 return Ok(left);
             };
-            let right = self.product(tokens)?;
+            let right = match self.product(tokens) {
+                Ok(right) => right,
+                Err(fault) => return Err(fault.after(left)),
+            };
             left = calculate(self.alloc, operator, left, right)?;
         }
         Ok(left)
@@ -132,8 +140,33 @@ impl<F: Fn(Global, &mut Tokens<'_>, usize, Level) -> Result<Expr, Fault>> Rules<
         ensures { Reads (applied value (parse (spec.null_test self.now.depth (spec.deeper self.now.depth)) tokens.old)) result tokens.new }
     {
         let negated = tokens.eat(Kind::Not);
-        tokens.expect(Kind::Null)?;
-        Ok(is_null(self.alloc, value, negated)?)
+        match tokens.expect(Kind::Null) {
+            Ok(()) => Ok(is_null(self.alloc, value, negated)?),
+            Err(fault) => Err(fault.after(value)),
+        }
+    }
+
+    /// `AND sum`.
+    #[tactic(auto, using(crate::proofs::Steps::steps))]
+    fn high(&self, tokens: &mut Tokens<'_>) -> Result<Expr, Fault>
+        requires { Nests self.now.depth (F.pre self.now.level) (F.post self.now.level) }
+        ensures { Reads (parse (skip Kind.And (spec.sum self.now.depth (spec.deeper self.now.depth))) tokens.old) result tokens.new }
+    {
+        tokens.expect(Kind::And)?;
+        self.sum(tokens)
+    }
+
+    /// `sum AND sum`.
+    #[tactic(auto, using(crate::proofs::Steps::steps))]
+    fn range(&self, tokens: &mut Tokens<'_>) -> Result<(Expr, Expr), Fault>
+        requires { Nests self.now.depth (F.pre self.now.level) (F.post self.now.level) }
+        ensures { Reads (parse (spec.range self.now.depth (spec.deeper self.now.depth)) tokens.old) result tokens.new }
+    {
+        let low = self.sum(tokens)?;
+        match self.high(tokens) {
+            Ok(high) => Ok((low, high)),
+            Err(fault) => Err(fault.after(low)),
+        }
     }
 
     /// `sum AND sum`, behind BETWEEN.
@@ -142,10 +175,10 @@ impl<F: Fn(Global, &mut Tokens<'_>, usize, Level) -> Result<Expr, Fault>> Rules<
         requires { Nests self.now.depth (F.pre self.now.level) (F.post self.now.level) }
         ensures { Reads (applied value (parse (spec.between self.now.depth (spec.deeper self.now.depth) negated) tokens.old)) result tokens.new }
     {
-        let low = self.sum(tokens)?;
-        tokens.expect(Kind::And)?;
-        let high = self.sum(tokens)?;
-        Ok(between(self.alloc, value, low, high, negated)?)
+        match self.range(tokens) {
+            Ok((low, high)) => Ok(between(self.alloc, value, low, high, negated)?),
+            Err(fault) => Err(fault.after(value)),
+        }
     }
 
     /// `sum {"," sum}`.
@@ -161,16 +194,30 @@ impl<F: Fn(Global, &mut Tokens<'_>, usize, Level) -> Result<Expr, Fault>> Rules<
         )
     }
 
+    /// `"(" sum {"," sum} ")"`.
+    #[tactic(auto, using(crate::proofs::Steps::steps))]
+    fn listed(&self, tokens: &mut Tokens<'_>) -> Result<Items<Expr>, Fault>
+        requires { Nests self.now.depth (F.pre self.now.level) (F.post self.now.level) }
+        ensures { Reads (parse (spec.parens self.now.depth (spec.sums self.now.depth (spec.deeper self.now.depth))) tokens.old) result tokens.new }
+    {
+        tokens.open(self.depth, Kind::LeftParen)?;
+        let items = self.sums(tokens)?;
+        match tokens.expect(Kind::RightParen) {
+            Ok(()) => Ok(items),
+            Err(fault) => Err(fault.after(items)),
+        }
+    }
+
     /// `"(" sum {"," sum} ")"`, behind IN.
     #[tactic(auto, using(crate::proofs::Steps::steps), unfolding(crate::specs::Expressions::among))]
     fn among(&self, tokens: &mut Tokens<'_>, value: Expr, negated: bool) -> Result<Expr, Fault>
         requires { Nests self.now.depth (F.pre self.now.level) (F.post self.now.level) }
         ensures { Reads (applied value (parse (spec.among self.now.depth (spec.deeper self.now.depth) negated) tokens.old)) result tokens.new }
     {
-        tokens.open(self.depth, Kind::LeftParen)?;
-        let items = self.sums(tokens)?;
-        tokens.expect(Kind::RightParen)?;
-        Ok(is_in(self.alloc, value, items, negated)?)
+        match self.listed(tokens) {
+            Ok(items) => Ok(is_in(self.alloc, value, items, negated)?),
+            Err(fault) => Err(fault.after(value)),
+        }
     }
 
     /// BETWEEN or IN with what follows it, behind NOT.
@@ -182,8 +229,10 @@ impl<F: Fn(Global, &mut Tokens<'_>, usize, Level) -> Result<Expr, Fault>> Rules<
         if tokens.eat(Kind::Between) {
             return self.between(tokens, value, true);
         }
-        tokens.expect(Kind::In)?;
-        self.among(tokens, value, true)
+        match tokens.expect(Kind::In) {
+            Ok(()) => self.among(tokens, value, true),
+            Err(fault) => Err(fault.after(value)),
+        }
     }
 
     /// `[cmp sum]`.
@@ -195,8 +244,10 @@ impl<F: Fn(Global, &mut Tokens<'_>, usize, Level) -> Result<Expr, Fault>> Rules<
         let Some(operator) = comparing(tokens) else {
             return Ok(value);
         };
-        let right = self.sum(tokens)?;
-        Ok(compare(self.alloc, operator, value, right)?)
+        match self.sum(tokens) {
+            Ok(right) => Ok(compare(self.alloc, operator, value, right)?),
+            Err(fault) => Err(fault.after(value)),
+        }
     }
 
     /// BETWEEN or IN with what follows it, or a comparison, or nothing.
@@ -273,7 +324,10 @@ impl<F: Fn(Global, &mut Tokens<'_>, usize, Level) -> Result<Expr, Fault>> Rules<
             if !tokens.eat(Kind::And) {
                 return Ok(left);
             }
-            let right = self.negation(tokens)?;
+            let right = match self.negation(tokens) {
+                Ok(right) => right,
+                Err(fault) => return Err(fault.after(left)),
+            };
             left = both(self.alloc, left, right)?;
         }
         Ok(left)
@@ -290,7 +344,10 @@ impl<F: Fn(Global, &mut Tokens<'_>, usize, Level) -> Result<Expr, Fault>> Rules<
             if !tokens.eat(Kind::Or) {
                 return Ok(left);
             }
-            let right = self.conjunction(tokens)?;
+            let right = match self.conjunction(tokens) {
+                Ok(right) => right,
+                Err(fault) => return Err(fault.after(left)),
+            };
             left = either(self.alloc, left, right)?;
         }
         Ok(left)

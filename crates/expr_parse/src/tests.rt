@@ -1,27 +1,35 @@
 //! Expressions that are read or refused, with the place that follows from the grammar's text.
 
-ghost use Rattle.std.specs.Prelude.{◌<◌, ◌^◌, length};
-
 use crate::*;
 use sql_grammar::Kind;
 use std::alloc::Global;
 use std::test::Fail;
 use volt_text::lex;
 
-/// Where reading of the expression at a text's beginning ends: whether there is one, and the number
-/// of the token that is next.
-fn answer(alloc: Global, text: &str) -> Result<(bool, usize), Fail>
-    requires { length text.now < 2 ^ 32 }
-{
-    let tokens = lex(alloc, text)?;
+/// The expression at a text's beginning, where there is one, and the number of the token at which
+/// reading ends.
+fn first_of(alloc: Global, text: &str) -> Result<(Option<Expr>, usize), Fail> {
+    if text.len() > 100_000 {
+        return Err("too long".into());
+    }
+    let tokens = match lex(alloc, text) {
+        Ok(tokens) => tokens,
+        Err(_) => return Err("not lexed".into()),
+    };
     let mut cursor = Tokens::at(text, tokens.as_slice(), 0);
     let read = expr(alloc, &mut cursor, 100);
     let place = tokens.len().saturating_sub(cursor.left());
     match read {
-        Ok(_) => Ok((true, place)),
-        Err(Fault::Syntax) => Ok((false, place)),
-        Err(Fault::NoMemory) => Err(Fail::from("out of memory")),
+        Ok(read) => Ok((Some(read), place)),
+        Err(Fault::Syntax) => Ok((None, place)),
+        Err(Fault::NoMemory) => Err("out of memory".into()),
     }
+}
+
+/// Whether there is an expression at a text's beginning, and where reading ends.
+fn answer(alloc: Global, text: &str) -> Result<(bool, usize), Fail> {
+    let (found, place) = first_of(alloc, text)?;
+    Ok((found.is_some(), place))
 }
 
 /// Texts with where reading of the expression at their beginning ends.
@@ -52,12 +60,20 @@ const ANSWERS: [(&str, bool, usize); 24] = [
     ("ROWS(1)", false, 2),
 ];
 
+/// The place of the first text whose answer is another.
+fn first_wrong(alloc: Global, cases: &[(&str, bool, usize)]) -> Result<Option<usize>, Fail> {
+    for i in 0..cases.len() {
+        let (text, is_read, place) = cases[i];
+        if answer(alloc, text)? != (is_read, place) {
+            return Ok(Some(i));
+        }
+    }
+    Ok(None)
+}
+
 #[test]
 fn expressions_end_where_the_grammar_says(rt: HostRuntime) -> Result<(), Fail> {
-    for (text, read, place) in ANSWERS {
-        assert!(rt; text.len() < 100_000);
-        assert_eq!(rt; answer(rt.alloc(), text)?, (read, place));
-    }
+    assert_eq!(rt; first_wrong(rt.alloc(), &ANSWERS)?, None);
     Ok(())
 }
 
@@ -74,24 +90,37 @@ fn nested(alloc: Global, count: usize, open: &str, close: &str) -> Result<String
     Ok(text)
 }
 
+/// Nested expressions with where reading of them ends: the texts before and behind the innermost
+/// one, and how many there are.
+const NESTED: [(&str, &str, usize, bool, usize); 8] = [
+    ("(", ")", 100, true, 201),
+    ("(", ")", 101, false, 100),
+    ("NOT ", "", 100, true, 101),
+    ("NOT ", "", 101, false, 100),
+    ("- ", "", 100, true, 101),
+    ("- ", "", 101, false, 100),
+    ("1+", "", 2047, true, 4095),
+    ("1+", "", 2048, false, 4096),
+];
+
+/// The place of the first of these whose answer is another.
+fn first_wrong_nested(
+    alloc: Global,
+    cases: &[(&str, &str, usize, bool, usize)],
+) -> Result<Option<usize>, Fail> {
+    for i in 0..cases.len() {
+        let (open, close, count, is_read, place) = cases[i];
+        let text = nested(alloc, count, open, close)?;
+        if answer(alloc, text.as_str())? != (is_read, place) {
+            return Ok(Some(i));
+        }
+    }
+    Ok(None)
+}
+
 #[test]
 fn limits_hold(rt: HostRuntime) -> Result<(), Fail> {
-    let alloc = rt.alloc();
-    let expected = [
-        ("(", ")", 100, true, 201),
-        ("(", ")", 101, false, 100),
-        ("NOT ", "", 100, true, 101),
-        ("NOT ", "", 101, false, 100),
-        ("- ", "", 100, true, 101),
-        ("- ", "", 101, false, 100),
-        ("1+", "", 2047, true, 4095),
-        ("1+", "", 2048, false, 4096),
-    ];
-    for (open, close, count, read, place) in expected {
-        let text = nested(alloc, count, open, close)?;
-        assert!(rt; text.len() < 100_000);
-        assert_eq!(rt; answer(alloc, text.as_str())?, (read, place));
-    }
+    assert_eq!(rt; first_wrong_nested(rt.alloc(), &NESTED)?, None);
     Ok(())
 }
 
@@ -113,44 +142,91 @@ fn is_by_strength(expr: &Expr) -> bool {
         && matches!(negated.get(), Expr::Negate(_))
 }
 
+/// Whether the text is that expression, and where reading of it ends.
+fn strength_of(alloc: Global, text: &str) -> Result<(bool, usize), Fail> {
+    let (found, place) = first_of(alloc, text)?;
+    match found {
+        Some(read) => Ok((is_by_strength(&read), place)),
+        None => Err("no expression".into()),
+    }
+}
+
 #[test]
 fn operators_bind_by_their_strength(rt: HostRuntime) -> Result<(), Fail> {
-    let alloc = rt.alloc();
-    let text = "NOT a = b AND c + d * -e";
-    let tokens = lex(alloc, text)?;
-    let mut cursor = Tokens::at(text, tokens.as_slice(), 0);
-    match expr(alloc, &mut cursor, 100) {
-        Ok(read) => assert!(rt; is_by_strength(&read)),
-        Err(_) => return Err(Fail::from("no expression")),
-    }
-    assert_eq!(rt; cursor.left(), 0);
+    assert_eq!(rt;
+        strength_of(rt.alloc(), "NOT a = b AND c + d * -e")?,
+        (true, 11)
+    );
     Ok(())
+}
+
+/// Whether a cursor over two tokens that goes past three is at its end.
+fn is_past_its_end(cursor: &Tokens<'_>) -> bool {
+    let mut few = cursor.prefix(2);
+    few.advance(3);
+    few.left() == 0
+}
+
+/// Whether `t . a` is next, and nothing else is read.
+fn is_before_column(cursor: &mut Tokens<'_>) -> bool {
+    cursor.left() == 6
+        && !cursor.eat(Kind::Select)
+        && cursor.sees(Kind::Name)
+        && cursor.expect(Kind::Dot) == Err(Fault::Syntax)
+        && cursor.left() == 6
+}
+
+/// Whether `( 7` is next, and is read.
+fn is_before_number(cursor: &mut Tokens<'_>) -> bool {
+    cursor.begins(1, Kind::LeftParen)
+        && !cursor.begins(0, Kind::LeftParen)
+        && cursor.open(0, Kind::LeftParen) == Err(Fault::Syntax)
+        && cursor.open(1, Kind::LeftParen) == Ok(())
+        && cursor.number() == Ok(7)
+}
+
+/// Whether the last token is the text `x'y`.
+fn is_before_text(alloc: Global, cursor: &mut Tokens<'_>) -> bool {
+    match cursor.text(alloc) {
+        Ok(found) => found.as_str() == "x'y" && cursor.name(alloc).is_err(),
+        Err(_) => false,
+    }
+}
+
+/// How many of the steps over the tokens of a text are as they should be, up to the first that isn't.
+fn steps_over(alloc: Global, text: &str) -> Result<usize, Fail> {
+    if text.len() > 100 {
+        return Err("too long".into());
+    }
+    let tokens = match lex(alloc, text) {
+        Ok(tokens) => tokens,
+        Err(_) => return Err("not lexed".into()),
+    };
+    if tokens.is_empty() {
+        return Ok(0);
+    }
+    let mut cursor = Tokens::at(text, tokens.as_slice(), 1);
+    if !is_before_column(&mut cursor) {
+        return Ok(1);
+    }
+    if !is_past_its_end(&cursor) {
+        return Ok(2);
+    }
+    if column(alloc, &mut cursor).is_err() {
+        return Ok(3);
+    }
+    if !is_before_number(&mut cursor) {
+        return Ok(4);
+    }
+    if !is_before_text(alloc, &mut cursor) {
+        return Ok(5);
+    }
+    Ok(6)
 }
 
 #[test]
 fn a_cursor_goes_over_tokens(rt: HostRuntime) -> Result<(), Fail> {
-    let alloc = rt.alloc();
-    let text = "SELECT t . a ( 7 'x''y'";
-    let tokens = lex(alloc, text)?;
-    assert!(rt; tokens.len() == 7);
-    let mut cursor = Tokens::at(text, tokens.as_slice(), 1);
-    assert_eq!(rt; cursor.left(), 6);
-    assert!(rt; !cursor.eat(Kind::Select) && cursor.sees(Kind::Name));
-    assert_eq!(rt; cursor.expect(Kind::Dot), Err(Fault::Syntax));
-    assert_eq!(rt; cursor.left(), 6);
-    let mut few = cursor.prefix(2);
-    few.advance(3);
-    assert_eq!(rt; few.left(), 0);
-    assert!(rt; column(alloc, &mut cursor).is_ok());
-    assert!(rt; cursor.begins(1, Kind::LeftParen) && !cursor.begins(0, Kind::LeftParen));
-    assert_eq!(rt; cursor.open(0, Kind::LeftParen), Err(Fault::Syntax));
-    assert_eq!(rt; cursor.open(1, Kind::LeftParen), Ok(()));
-    assert_eq!(rt; cursor.number(), Ok(7));
-    match cursor.text(alloc) {
-        Ok(found) => assert_eq!(rt; found.as_str(), "x'y"),
-        Err(_) => return Err(Fail::from("no text")),
-    }
-    assert!(rt; cursor.name(alloc).is_err());
+    assert_eq!(rt; steps_over(rt.alloc(), "SELECT t . a ( 7 'x''y'")?, 6);
     Ok(())
 }
 

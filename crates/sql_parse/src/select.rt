@@ -70,8 +70,10 @@ fn closed(alloc: Global, tokens: &mut Tokens<'_>, depth: usize) -> Result<Expr, 
     ensures { Reads (parse (spec.closed depth) tokens.old) result tokens.new }
 {
     let value = inner_expr(alloc, tokens, depth)?;
-    tokens.expect(Kind::RightParen)?;
-    Ok(value)
+    match tokens.expect(Kind::RightParen) {
+        Ok(()) => Ok(value),
+        Err(fault) => Err(fault.after(value)),
+    }
 }
 
 /// `"(" expr ")"`, behind SUM, MIN or MAX.
@@ -161,8 +163,10 @@ fn output(alloc: Global, tokens: &mut Tokens<'_>, depth: usize) -> Result<Output
     ensures { Reads (parse (spec.output depth) tokens.old) result tokens.new }
 {
     let value = output_value(alloc, tokens, depth)?;
-    let name = output_name(alloc, tokens)?;
-    Ok(Output { value, name })
+    match output_name(alloc, tokens) {
+        Ok(name) => Ok(Output { value, name }),
+        Err(fault) => Err(fault.after(value)),
+    }
 }
 
 /// `out {"," out}`.
@@ -227,13 +231,18 @@ fn source(alloc: Global, tokens: &mut Tokens<'_>, depth: usize) -> Result<Origin
     ensures { Reads (parse (spec.source depth) tokens.old) result tokens.new }
 {
     let first = table(alloc, tokens)?;
-    let second = second_table(alloc, tokens, depth)?;
-    let filter = filter(alloc, tokens, depth)?;
-    Ok(Origin {
-        first,
-        second,
-        filter,
-    })
+    let second = match second_table(alloc, tokens, depth) {
+        Ok(second) => second,
+        Err(fault) => return Err(fault.after(first)),
+    };
+    match filter(alloc, tokens, depth) {
+        Ok(filter) => Ok(Origin {
+            first,
+            second,
+            filter,
+        }),
+        Err(fault) => Err(fault.after(first).after(second)),
+    }
 }
 
 /// `[GROUP BY ..] [ORDER BY ..] [LIMIT ..]`.
@@ -258,8 +267,10 @@ fn behind_outputs(alloc: Global, tokens: &mut Tokens<'_>, depth: usize) -> Resul
 {
     tokens.expect(Kind::From)?;
     let origin = source(alloc, tokens, depth)?;
-    let rest = tail(alloc, tokens)?;
-    Ok(Behind { origin, rest })
+    match tail(alloc, tokens) {
+        Ok(rest) => Ok(Behind { origin, rest }),
+        Err(fault) => Err(fault.after(origin)),
+    }
 }
 
 /// What stands behind SELECT.

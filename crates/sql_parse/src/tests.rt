@@ -1,151 +1,85 @@
 //! Statements that are read or refused, with the place that follows from the grammar's text.
 
-ghost use Rattle.std.specs.Prelude.{◌<◌, ◌^◌, length};
-
 use crate::*;
 use std::alloc::Global;
 use std::test::Fail;
 use volt_text::lex;
 
-/// The number of the token behind the statement at a text's beginning.
-fn end_of(alloc: Global, text: &str) -> Result<Option<usize>, Fail>
-    requires { length text.now < 2 ^ 32 }
-{
-    let tokens = lex(alloc, text)?;
-    match parse_statement(alloc, text, tokens.as_slice(), 0) {
-        Ok((_, next)) => Ok(Some(next)),
-        Err(ParseFault::Syntax(_)) => Ok(None),
-        Err(fault) => Err(Fail::from(fault)),
+/// Whether a text begins with a statement, and the number of the token behind it; or the number of
+/// the token at which it is refused.
+fn answer(alloc: Global, text: &str) -> Result<(bool, usize), Fail> {
+    if text.len() > 100_000 {
+        return Err("too long".into());
+    }
+    let tokens = match lex(alloc, text) {
+        Ok(tokens) => tokens,
+        Err(_) => return Err("not lexed".into()),
+    };
+    match parse_statement(alloc, text, &tokens, 0) {
+        Ok((_, next)) => Ok((true, next)),
+        Err(ParseFault::Syntax(place)) => Ok((false, place as usize)),
+        Err(ParseFault::NoMemory) => Err("out of memory".into()),
     }
 }
 
-/// The number of the token at which a text is refused.
-fn refusal_of(alloc: Global, text: &str) -> Result<Option<u32>, Fail>
-    requires { length text.now < 2 ^ 32 }
-{
-    let tokens = lex(alloc, text)?;
-    match parse_statement(alloc, text, tokens.as_slice(), 0) {
-        Err(ParseFault::Syntax(place)) => Ok(Some(place)),
-        Ok(_) => Ok(None),
-        Err(fault) => Err(Fail::from(fault)),
+/// The place of the first text whose answer is another.
+fn first_wrong(
+    alloc: Global,
+    cases: &[(&str, usize)],
+    is_read: bool,
+) -> Result<Option<usize>, Fail> {
+    for i in 0..cases.len() {
+        let (text, wanted) = cases[i];
+        if answer(alloc, text)? != (is_read, wanted) {
+            return Ok(Some(i));
+        }
     }
+    Ok(None)
 }
+
+/// Texts with the number of the token behind the statement at their beginning.
+const READ: [(&str, usize); 12] = [
+    ("insert INTO t VALUES (1, ?)", 9),
+    ("INSERT INTO t (a, b) VALUES ('it''s', NULL)", 14),
+    ("UPDATE t SET a = 1, b = b - :n WHERE a IN (1, 2)", 21),
+    ("DELETE FROM t", 3),
+    ("DELETE FROM t WHERE a IS NOT NULL; x", 8),
+    ("DELETE FROM t WHERE a = 9223372036854775807", 7),
+    ("SELECT * FROM t", 4),
+    (
+        "SELECT a AS x, COUNT(*), COUNT(a), SUM(a) FROM t AS u, v w",
+        26,
+    ),
+    ("SELECT MIN(a), MAX(b) FROM t INNER JOIN u ON t.a = u.a", 23),
+    ("SELECT a FROM t JOIN u ON 1 = 1 LIMIT ?", 12),
+    (
+        "SELECT a FROM t WHERE a BETWEEN 1 AND 2 GROUP BY a, t.b ORDER BY a DESC, b ASC, c LIMIT 10",
+        28,
+    ),
+    ("SELECT ROWS(r), FIRST(r.c), :v, :x.c FROM t LIMIT :n", 25),
+];
 
 #[test]
-fn writes_are_read(rt: HostRuntime) -> Result<(), Fail> {
-    let alloc = rt.alloc();
-    assert_eq!(rt; end_of(alloc, "insert INTO t VALUES (1, ?)")?, Some(9));
-    assert_eq!(rt;
-        end_of(alloc, "INSERT INTO t (a, b) VALUES ('it''s', NULL)")?,
-        Some(14)
-    );
-    assert_eq!(rt;
-        end_of(alloc, "UPDATE t SET a = 1, b = b - :n WHERE a IN (1, 2)")?,
-        Some(21)
-    );
-    assert_eq!(rt; end_of(alloc, "DELETE FROM t")?, Some(3));
-    assert_eq!(rt;
-        end_of(alloc, "DELETE FROM t WHERE a IS NOT NULL; x")?,
-        Some(8)
-    );
-    Ok(())
-}
-
-#[test]
-fn selects_are_read(rt: HostRuntime) -> Result<(), Fail> {
-    let alloc = rt.alloc();
-    assert_eq!(rt; end_of(alloc, "SELECT * FROM t")?, Some(4));
-    assert_eq!(rt;
-        end_of(
-            alloc,
-            "SELECT a AS x, COUNT(*), COUNT(a), SUM(a) FROM t AS u, v w"
-        )?,
-        Some(26)
-    );
-    assert_eq!(rt;
-        end_of(
-            alloc,
-            "SELECT MIN(a), MAX(b) FROM t INNER JOIN u ON t.a = u.a"
-        )?,
-        Some(23)
-    );
-    assert_eq!(rt;
-        end_of(alloc, "SELECT a FROM t JOIN u ON 1 = 1 LIMIT ?")?,
-        Some(12)
-    );
-    assert_eq!(rt;
-        end_of(
-            alloc,
-            "SELECT a FROM t WHERE a BETWEEN 1 AND 2 GROUP BY a, t.b ORDER BY a DESC, b ASC, c LIMIT 10"
-        )?,
-        Some(28)
-    );
-    assert_eq!(rt;
-        end_of(
-            alloc,
-            "SELECT ROWS(r), FIRST(r.c), :v, :x.c FROM t LIMIT :n"
-        )?,
-        Some(25)
-    );
-    Ok(())
-}
-
-#[test]
-fn the_first_token_that_does_not_fit_is_named(rt: HostRuntime) -> Result<(), Fail> {
-    let alloc = rt.alloc();
-    assert_eq!(rt; refusal_of(alloc, "")?, Some(0));
-    assert_eq!(rt; refusal_of(alloc, "SELECT a FROM t WHERE )")?, Some(5));
-    assert_eq!(rt; refusal_of(alloc, "SELECT a FROM t WHERE")?, Some(5));
-    assert_eq!(rt; refusal_of(alloc, "SELECT from FROM t")?, Some(1));
-    assert_eq!(rt; refusal_of(alloc, "INSERT t VALUES (1)")?, Some(1));
-    assert_eq!(rt; refusal_of(alloc, "INSERT INTO t VALUES ()")?, Some(5));
-    assert_eq!(rt; refusal_of(alloc, "UPDATE t SET a 1")?, Some(4));
-    assert_eq!(rt; refusal_of(alloc, "DELETE t")?, Some(1));
-    assert_eq!(rt; refusal_of(alloc, "SELECT a FROM t INNER u")?, Some(5));
-    assert_eq!(rt; refusal_of(alloc, "SELECT a FROM t LIMIT -1")?, Some(5));
-    assert_eq!(rt;
-        refusal_of(alloc, "DELETE FROM t WHERE a NOT = b")?,
-        Some(6)
-    );
-    assert_eq!(rt; refusal_of(alloc, "DELETE FROM t WHERE a IN 1")?, Some(6));
-    assert_eq!(rt;
-        refusal_of(alloc, "DELETE FROM t WHERE a = 9223372036854775808")?,
-        Some(6)
-    );
-    assert_eq!(rt;
-        end_of(alloc, "DELETE FROM t WHERE a = 9223372036854775807")?,
-        Some(7)
-    );
-    Ok(())
-}
-
-/// A statement whose condition begins with so many of a text, and ends with so many of another one.
-fn nested(alloc: Global, count: usize, open: &str, close: &str) -> Result<String, Fail> {
-    let mut text = String::from_str(alloc, "DELETE FROM t WHERE ")?;
-    for _turn in 0..count {
-        text.push_str(open)?;
-    }
-    text.push_str("1")?;
-    for _turn in 0..count {
-        text.push_str(close)?;
-    }
-    Ok(text)
-}
-
-#[test]
-fn limits_hold(rt: HostRuntime) -> Result<(), Fail> {
-    let alloc = rt.alloc();
-    let deep = nested(alloc, 100, "(", ")")?;
-    assert!(rt; deep.len() < 100_000);
-    assert_eq!(rt; end_of(alloc, deep.as_str())?, Some(205));
-    let deeper = nested(alloc, 101, "(", ")")?;
-    assert!(rt; deeper.len() < 100_000);
-    assert_eq!(rt; refusal_of(alloc, deeper.as_str())?, Some(104));
+fn statements_are_read(rt: HostRuntime) -> Result<(), Fail> {
+    assert_eq!(rt; first_wrong(rt.alloc(), &READ, true)?, None);
     Ok(())
 }
 
 /// Texts that no statement continues, each with the number of the token at which it is refused.
-const REFUSED: [(&str, u32); 25] = [
+const REFUSED: [(&str, usize); 38] = [
+    ("", 0),
+    ("SELECT a FROM t WHERE )", 5),
+    ("SELECT a FROM t WHERE", 5),
+    ("SELECT from FROM t", 1),
+    ("INSERT t VALUES (1)", 1),
+    ("INSERT INTO t VALUES ()", 5),
+    ("UPDATE t SET a 1", 4),
+    ("DELETE t", 1),
+    ("SELECT a FROM t INNER u", 5),
+    ("SELECT a FROM t LIMIT -1", 5),
+    ("DELETE FROM t WHERE a NOT = b", 6),
+    ("DELETE FROM t WHERE a IN 1", 6),
+    ("DELETE FROM t WHERE a = 9223372036854775808", 6),
     ("SELECT a FROM t GROUP a", 5),
     ("SELECT a FROM t ORDER a", 5),
     ("SELECT a FROM t WHERE a BETWEEN 1 OR 2", 8),
@@ -174,10 +108,36 @@ const REFUSED: [(&str, u32); 25] = [
 ];
 
 #[test]
-fn each_part_is_refused_at_its_place(rt: HostRuntime) -> Result<(), Fail> {
-    for (text, place) in REFUSED {
-        assert!(rt; text.len() < 100_000);
-        assert_eq!(rt; refusal_of(rt.alloc(), text)?, Some(place));
+fn the_first_token_that_does_not_fit_is_named(rt: HostRuntime) -> Result<(), Fail> {
+    assert_eq!(rt; first_wrong(rt.alloc(), &REFUSED, false)?, None);
+    Ok(())
+}
+
+/// A statement whose condition stands in so many parentheses.
+fn nested(alloc: Global, count: usize) -> Result<String, Fail> {
+    let mut text = String::from_str(alloc, "DELETE FROM t WHERE ")?;
+    for _turn in 0..count {
+        text.push_str("(")?;
     }
+    text.push_str("1")?;
+    for _turn in 0..count {
+        text.push_str(")")?;
+    }
+    Ok(text)
+}
+
+fn nested_answer(alloc: Global, count: usize) -> Result<(bool, usize), Fail> {
+    answer(alloc, nested(alloc, count)?.as_str())
+}
+
+#[test]
+fn a_hundred_parentheses_are_read(rt: HostRuntime) -> Result<(), Fail> {
+    assert_eq!(rt; nested_answer(rt.alloc(), 100)?, (true, 205));
+    Ok(())
+}
+
+#[test]
+fn one_parenthesis_more_is_refused(rt: HostRuntime) -> Result<(), Fail> {
+    assert_eq!(rt; nested_answer(rt.alloc(), 101)?, (false, 104));
     Ok(())
 }
