@@ -111,21 +111,43 @@ fn read(scan: &mut CowScan) -> (u32, u32) {
     (count, sum)
 }
 
-/// Of 130 rows the first 70 are deleted: the others stand in one block once none can move.
+// A pane of the numbers from 0 on, so many, without those from one up to another.
+fn thinned(alloc: Global, count: u32, from: usize, to: usize) -> Result<Pane, AllocError> {
+    let mut pane = counted(alloc, count)?;
+    let _all = take_some(&mut pane, from, to)?;
+    Ok(pane)
+}
+
+// How many tuples there are, and up to which block.
+fn shape(pane: &Pane) -> (u32, u32) {
+    (pane.len(), pane.blocks())
+}
+
+// Whether 129 stands first, 70 at place 59, and nothing behind it.
+fn is_compacted(pane: &Pane) -> bool {
+    has(pane, place(0), Some(129))
+        && has(pane, place(59), Some(70))
+        && has(pane, place(60), None)
+        && count_places(pane) == 60
+}
+
+/// Of 130 rows the first 70 are deleted: the others stand in one block once none can move. The last
+/// tuple goes to the first place.
 #[test]
 fn rows_stand_in_one_block_after_compacting(rt: HostRuntime) -> Result<(), Fail> {
-    let mut pane = counted(rt.alloc(), 130)?;
-    assert_eq!(rt; (pane.len(), pane.blocks()), (130, 3));
-    assert!(rt; take_some(&mut pane, 0, 70)?);
-    assert_eq!(rt; (pane.len(), pane.blocks()), (60, 3));
-    assert_eq!(rt; compact_all(&mut pane)?, Some(60));
-    assert_eq!(rt; (pane.len(), pane.blocks()), (60, 1));
-    // The last tuple went to the first place.
-    assert!(rt; has(&pane, place(0), Some(129)));
-    assert!(rt; has(&pane, place(59), Some(70)));
-    assert!(rt; has(&pane, place(60), None));
-    assert_eq!(rt; count_places(&pane), 60);
+    let mut pane = thinned(rt.alloc(), 130, 0, 70)?;
+    let before = shape(&pane);
+    let moves = compact_all(&mut pane)?;
+    assert_eq!(rt; (before, moves, shape(&pane)), ((60, 3), Some(60), (60, 1)));
+    assert!(rt; is_compacted(&pane));
     Ok(())
+}
+
+// Puts a number over another, takes three and adds one, and tells whether all of that was done.
+fn change(pane: &mut Pane) -> Result<bool, AllocError> {
+    let was_put = put(pane, place(3), 200)?;
+    let were_taken = take_some(pane, 0, 3)?;
+    Ok(was_put && were_taken && add(pane, 7)?.is_some())
 }
 
 /// A scan gives the rows as they stood, whatever is written beside it.
@@ -134,28 +156,36 @@ fn scan_keeps_the_rows(rt: HostRuntime) -> Result<(), Fail> {
     let mut pane = counted(rt.alloc(), 100)?;
     let mut scan = pane.share()?;
     may_cross(&scan);
-    assert!(rt; put(&mut pane, place(3), 200)?);
-    assert!(rt; take_some(&mut pane, 0, 3)?);
-    assert!(rt; add(&mut pane, 7)?.is_some());
-    assert_eq!(rt; compact_all(&mut pane)?, Some(3));
-    assert_eq!(rt; (pane.len(), pane.width()), (98, 4));
+    assert!(rt; change(&mut pane)?);
+    let moves = compact_all(&mut pane)?;
     // 0 + 1 + .. + 99
-    assert_eq!(rt; read(&mut scan), (100, 4950));
+    assert_eq!(rt;
+        (moves, pane.len(), read(&mut scan)),
+        (Some(3), 98, (100, 4950))
+    );
+    Ok(())
+}
+
+fn add_some(pane: &mut Pane, count: u32) -> Result<(), AllocError> {
+    for i in 0..count {
+        let _place = add(pane, i)?;
+    }
     Ok(())
 }
 
 /// Free places are used again before there is a block more, but for a few.
 #[test]
 fn free_places_are_used_again(rt: HostRuntime) -> Result<(), Fail> {
-    let mut pane = counted(rt.alloc(), 640)?;
-    assert_eq!(rt; pane.is_empty(), false);
-    assert!(rt; take_some(&mut pane, 100, 300)?);
-    for i in 0..200u32 {
-        assert!(rt; add(&mut pane, i)?.is_some());
-    }
-    assert_eq!(rt; (pane.len(), pane.blocks()), (640, 10));
-    assert!(rt; pane.has_place(place(639)));
-    assert_eq!(rt; pane.has_place(place(640)), false);
+    let mut pane = thinned(rt.alloc(), 640, 100, 300)?;
+    add_some(&mut pane, 200)?;
+    let ends = (pane.has_place(place(639)), pane.has_place(place(640)));
+    assert_eq!(rt; (shape(&pane), ends), ((640, 10), (true, false)));
+    Ok(())
+}
+
+/// A pane of the widest tuples has no rows at first.
+#[test]
+fn new_pane_is_empty(rt: HostRuntime) -> Result<(), Fail> {
     assert!(rt; Pane::new(rt.alloc(), 8192).is_empty());
     Ok(())
 }
@@ -262,6 +292,28 @@ fn is_shared_at(step: u32) -> bool {
     step % 97 == 0
 }
 
+// Makes calls, and tells the number of the first after which the two differ. Each 97th time a scan is taken, after
+// which blocks are copied.
+fn first_difference(both: &mut Beside, calls: u32) -> Result<Option<u32>, AllocError> {
+    let mut random = 88172645463325252;
+    for i in 0..calls {
+        random = next_random(random);
+        if !is_alike_after(both, random)? || (is_shared_at(i) && !is_alike_when_shared(both)?) {
+            return Ok(Some(i));
+        }
+    }
+    Ok(None)
+}
+
+fn is_alike_after(both: &mut Beside, random: u64) -> Result<bool, AllocError> {
+    Ok(step(both, random)? && both.has_same_at((random % 600) as usize))
+}
+
+fn is_alike_when_shared(both: &mut Beside) -> Result<bool, AllocError> {
+    let _scan = both.pane.share()?;
+    Ok(both.is_same())
+}
+
 /// Calls of all kinds beside a plain list, among them scans, after which blocks are copied.
 #[test]
 fn ten_thousand_calls_beside_a_list(rt: HostRuntime) -> Result<(), Fail> {
@@ -269,16 +321,7 @@ fn ten_thousand_calls_beside_a_list(rt: HostRuntime) -> Result<(), Fail> {
         pane: Pane::new(rt.alloc(), 4),
         list: Vec::new(rt.alloc()),
     };
-    let mut random = 88172645463325252;
-    for i in 0..10000u32 {
-        random = next_random(random);
-        assert!(rt; step(&mut both, random)?, "call {i}");
-        assert!(rt; both.has_same_at((random % 600) as usize), "after call {i}");
-        if is_shared_at(i) {
-            let _scan = both.pane.share()?;
-            assert!(rt; both.is_same(), "after call {i}");
-        }
-    }
+    assert_eq!(rt; first_difference(&mut both, 10000)?, None);
     assert!(rt; both.is_same());
     Ok(())
 }

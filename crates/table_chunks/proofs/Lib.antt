@@ -2,3 +2,4 @@ pub mod LoadLemmas
 pub mod ChunkLemmas
 pub mod StoreLemmas
 pub mod ReadLemmas
+pub mod RestoreLemmas

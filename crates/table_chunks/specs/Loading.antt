@@ -1,8 +1,10 @@
 -- Rows that are loaded into a table.
-use Rattle.std.specs.Prelude.{◌≡◌, ℕ, Bool, true, false, not, ◌&&◌, ◌==◌, nat_lt, List, [], ◌∷◌, length, is_some}
+use Rattle.std.specs.Prelude.{◌≡◌, ℕ, Bool, true, false, not, ◌&&◌, ◌==◌, if◌then◌else◌, nat_lt, List, [], ◌∷◌, length, is_some, Option, Some, None}
+use Rattle.std.specs.Option.{option_and_then}
 use Rattle.volt_value.specs.declared.value.Value.{Value}
 use Rattle.table_rows.specs.Table.{Table, inserted, row_fault}
 use Rattle.table_store.specs.Steps.{table_at, with_table}
+use Rattle.table_chunks.specs.Reading.{chunk_at}
 
 -- the table with these rows more, put in one after another
 abbrev pub loaded : Table → List (List Value) → Table
@@ -25,3 +27,12 @@ can_load_into tables number rows = nat_lt number (length tables) && can_load (ta
 -- rows loaded into the table of a number
 abbrev pub loaded_into : List Table → ℕ → List (List Value) → List Table
 loaded_into tables number rows = with_table tables number (loaded (table_at tables number) rows)
+
+-- the table of a number with the rows of a chunk more, where it is one of this table and they can be loaded
+abbrev pub with_rows_of : ℕ → Table → ℕ × List (List Value) → Option Table
+with_rows_of number table chunk = if (chunk.0 == number) && can_load table chunk.1 then Some (loaded table chunk.1) else None
+
+-- the same of the bytes of chunks, one after another
+abbrev pub restored : ℕ → Table → List (List ℕ) → Option Table
+restored number table [] = Some table
+restored number table (bytes ∷ chunks) = option_and_then (λ t. restored number t chunks) (option_and_then (with_rows_of number table) (chunk_at bytes))

@@ -11,8 +11,8 @@ ghost use Rattle.pane_index.specs.Blocks.{all_slots};
 ghost use Rattle.table_rows.specs.Spread.{AreTuples};
 ghost use Rattle.table_rows.specs.Table.{Table, no_rows, IsTable};
 ghost use Rattle.table_rows.specs.Standing.{rows_in, IsScanOf};
-ghost use Rattle.table_chunks.specs.Loading.{loaded, can_load};
-ghost use Rattle.table_chunks.specs.Chunks.{rows_of, chunk_bytes, CanSpell};
+ghost use Rattle.table_chunks.specs.Loading.{loaded, can_load, restored};
+ghost use Rattle.table_chunks.specs.Chunks.{rows_of, chunk_bytes, chunks_of, CanSpell};
 ghost use Rattle.table_chunks.specs.Reading.{chunk_at};
 
 /// The rows of a table's scan, put in any order into a table without rows, are all taken, and give the
@@ -37,4 +37,12 @@ pub fn blocks_have_the_rows()
 pub fn chunks_are_read_again()
     ensures { (number : ℕ) (rows : List (List Value)) → number < 65536 → CanSpell rows
         → chunk_at (chunk_bytes number rows) ≡ Some (number, rows) }
+{}
+
+/// The chunks of a scan's blocks, each of 64 places, read and loaded one after another into a table
+/// without rows, give the table that was scanned.
+pub fn scans_are_restored()
+    ensures { (number : ℕ) (table : Table) (scan : List Tuples) → number < 65536 → length table.schema.fields < 256
+        → IsTable table → IsScanOf table scan → AllByRecursion (λ block. length block.slots ≡ 64) scan
+        → restored number (no_rows table.schema) (chunks_of number table.schema.fields scan) ≡ Some table }
 {}

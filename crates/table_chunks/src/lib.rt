@@ -8,7 +8,7 @@ mod writing;
 
 pub use loading::load;
 pub use reading::read_chunk;
-pub use writing::{rows_in, write_chunk};
+pub use writing::{chunk_of, rows_in, write_chunk};
 
 #[cfg(test)]
 mod tests;

@@ -1,8 +1,12 @@
-ghost use Rattle.std.specs.Prelude.{◌≡◌, [], ◌∷◌, IfOk};
+ghost use Rattle.std.specs.Prelude.{◌≡◌, ◌<◌, [], ◌∷◌, length, IfOk};
+ghost use Rattle.std.specs.List.{AllByRecursion};
 ghost use Rattle.volt_value.specs.declared.value.Value.TheVariants.{Int};
+ghost use Rattle.table_rows.specs.Spread.{AreTuples};
 
 use super::*;
-use row_codec::{Field, RowLayout};
+use crate::laws::blocks_have_the_rows;
+use cow_scan::CowScan;
+use row_codec::{Field, RowFault, RowLayout};
 use std::alloc::{AllocError, Global};
 use std::test::*;
 use table_rows::{Rows, TableRows};
@@ -26,15 +30,20 @@ fn columns(alloc: Global, numbers: &[u8]) -> Result<ColumnNos, AllocError>
     Ok(ColumnNos::from_vec(Vec::from_slice(alloc, numbers)?))
 }
 
-/// A table of pairs of integers, in which no two have the same first or the same second.
-fn pairs(alloc: Global) -> Result<Tables, AllocError> {
+/// Pairs of integers, in which no two have the same first or the same second.
+fn pair_rows(alloc: Global) -> Result<TableRows, AllocError> {
     let fields = [field(true), field(false)];
     let layout = RowLayout::new(alloc, Vec::from_slice(alloc, &fields)?)?;
     let mut keys = Vec::new(alloc);
     keys.push(columns(alloc, &[0])?)?;
     keys.push(columns(alloc, &[1])?)?;
+    TableRows::new(alloc, layout, keys)
+}
+
+/// Tables, of which the only one is of such pairs.
+fn pairs(alloc: Global) -> Result<Tables, AllocError> {
     let mut tables = Vec::new(alloc);
-    tables.push(TableRows::new(alloc, layout, keys)?)?;
+    tables.push(pair_rows(alloc)?)?;
     Ok(Tables::of(alloc, tables))
 }
 
@@ -121,5 +130,113 @@ fn chunks_are_read(rt: HostRuntime) -> Result<(), Fail> {
     assert_eq!(rt; found, (3, 1));
     assert!(rt; read_chunk(alloc, &bytes[..14])?.is_none());
     assert!(rt; read_chunk(alloc, &bytes)?.is_none());
+    Ok(())
+}
+
+/// Puts so many pairs in, in no order of their firsts.
+fn fill(alloc: Global, table: &mut TableRows, count: i64) -> Result<(), RowFault> {
+    for n in 0..count {
+        let row = pair(alloc, n.wrapping_mul(37) % 101, n)?;
+        if table.layout().fields().len() == row.len() {
+            table.insert(row.as_slice())?;
+        }
+    }
+    Ok(())
+}
+
+/// The next block of a scan as a chunk of table 0.
+fn next_chunk(
+    alloc: Global,
+    layout: &RowLayout,
+    scan: &mut CowScan,
+) -> Result<Option<Vec<u8>>, AllocError>
+    requires columns { length layout.now < 256 }
+    requires tuples { AllByRecursion (λ block. AreTuples layout.now block.slots) scan.old }
+    ensures { AllByRecursion (λ block. AreTuples layout.now block.slots) scan.new }
+{
+    match scan.next_block() {
+        Some(block) => Ok(Some(chunk_of(alloc, 0, layout, &block)?)),
+        None => Ok(None),
+    }
+}
+
+/// The chunks of a scan of a table, at most 100.
+fn chunks_of(alloc: Global, table: &mut TableRows) -> Result<Vec<Vec<u8>>, AllocError> {
+    let mut scan = table.share()?;
+    blocks_have_the_rows();
+    let layout = table.layout();
+    let mut chunks = Vec::new(alloc);
+    if layout.fields().len() > 255 {
+        return Ok(chunks);
+    }
+    for _ in 0..100u8 {
+        let Some(chunk) = next_chunk(alloc, layout, &mut scan)? else {
+            break;
+        };
+        chunks.push(chunk)?;
+    }
+    Ok(chunks)
+}
+
+/// Whether chunks can be read and loaded, one after another.
+fn load_chunks(alloc: Global, tables: &mut Tables, chunks: &[Vec<u8>]) -> Result<bool, AllocError> {
+    for i in 0..chunks.len() {
+        tables.release(Mark::above(0));
+        let Some((number, rows)) = read_chunk(alloc, chunks[i].as_slice())? else {
+            return Ok(false);
+        };
+        if !load(tables, number, rows.as_slice())? {
+            return Ok(false);
+        }
+    }
+    Ok(true)
+}
+
+/// How many rows there are, and a sum in which their order counts.
+fn summed(alloc: Global, rows: Rows<'_>) -> Result<(u32, i64), AllocError> {
+    let mut count = 0u32;
+    let mut sum = 0i64;
+    for row in rows {
+        if let [Value::Int(a), Value::Int(b)] = row.values(alloc)?.as_slice() {
+            count = count.wrapping_add(1);
+            sum = sum
+                .wrapping_mul(31)
+                .wrapping_add(a.wrapping_mul(7))
+                .wrapping_add(*b);
+        }
+    }
+    Ok((count, sum))
+}
+
+/// The sums by each of the two keys.
+fn sums(alloc: Global, table: &TableRows) -> Result<[(u32, i64); 2], AllocError> {
+    let mut sums = [(0, 0); 2];
+    for key in 0..2 {
+        if key < table.keys() {
+            sums[key] = summed(alloc, table.range(key, None, None))?;
+        }
+    }
+    Ok(sums)
+}
+
+/// How many chunks there are of a scan of 100 rows, of how many rows, and whether they were loaded and
+/// give the same rows by each key.
+fn loaded_again(alloc: Global) -> Result<(usize, u32, bool), RowFault> {
+    let mut table = pair_rows(alloc)?;
+    fill(alloc, &mut table, 100)?;
+    let chunks = chunks_of(alloc, &mut table)?;
+    let mut tables = pairs(alloc)?;
+    let is_loaded = load_chunks(alloc, &mut tables, chunks.as_slice())?;
+    if !is_loaded || tables.len() == 0 {
+        return Ok((chunks.len(), 0, false));
+    }
+    let before = sums(alloc, &table)?;
+    let after = sums(alloc, tables.table(0))?;
+    Ok((chunks.len(), after[0].0, after == before))
+}
+
+#[test]
+fn scans_are_loaded_again(rt: HostRuntime) -> Result<(), Fail> {
+    assert_eq!(rt; loaded_again(rt.alloc()), Ok((2, 100, true)));
     Ok(())
 }

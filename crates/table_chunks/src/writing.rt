@@ -1,10 +1,11 @@
 //! The rows of a block as bytes.
 
-ghost use Rattle.std.specs.Prelude.{◌≡◌, [], ◌∷◌, ◌++◌, map, IfOk, OnOk};
+ghost use Rattle.std.specs.Prelude.{◌≡◌, ◌<◌, [], ◌∷◌, ◌++◌, length, map, IfOk, OnOk};
 ghost use Rattle.std.specs.Option.{option_copied};
 ghost use Rattle.table_rows.specs.Spread.{AreTuples};
 ghost use Rattle.table_chunks.specs.Chunks.{rows_of, row_bytes, chunk_bytes, IsSpelledRow, CanSpell};
 
+use crate::laws::blocks_have_the_rows;
 use row_codec::RowLayout;
 use std::alloc::{AllocError, Global};
 use tuple_block::Block;
@@ -73,4 +74,23 @@ pub fn write_chunk(number: u16, rows: &[Vec<Value>], into: &mut Vec<u8>) -> Resu
         left = rest;
     }
     Ok(())
+}
+
+/// The rows of a block of the table of a number as a chunk.
+pub fn chunk_of(
+    alloc: Global,
+    number: u16,
+    layout: &RowLayout,
+    block: &Block,
+) -> Result<Vec<u8>, AllocError>
+    requires tuples { AreTuples layout.now block.now.slots }
+    requires columns { length layout.now < 256 }
+    ensures { IfOk result (λ chunk. chunk.items ≡ chunk_bytes number (rows_of layout.now block.now.slots)) }
+{
+    blocks_have_the_rows();
+    let _widths = (block.width(), layout.width());
+    let rows = rows_in(alloc, layout, block)?;
+    let mut chunk = Vec::new(alloc);
+    write_chunk(number, rows.as_slice(), &mut chunk)?;
+    Ok(chunk)
 }

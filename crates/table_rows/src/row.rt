@@ -1,6 +1,6 @@
 //! Rows read where they stand.
 
-ghost use Rattle.std.specs.Prelude.{◌≡◌, ◌<◌, Some, length, map, slice_get, IfOk, IsSome};
+ghost use Rattle.std.specs.Prelude.{◌≡◌, ◌<◌, ◌↔◌, Some, length, map, slice_get, IfOk, IsSome, IsTrue};
 ghost use Rattle.std.specs.Option.{unwrap_or};
 ghost use Rattle.std.specs.Iterator.{YieldsFirst, item_count};
 ghost use Rattle.volt_value.specs.declared.value.Value.TheVariants.{Null};
@@ -34,6 +34,20 @@ impl<'a> Model for Row<'a> {
 }
 
 impl<'a> Row<'a> {
+    /// How many values there are.
+    pub fn len(&self) -> usize
+        ensures { result ≡ length self.now }
+    {
+        self.layout.fields().len()
+    }
+
+    /// Whether there are none.
+    pub fn is_empty(&self) -> bool
+        ensures { IsTrue result ↔ (length self.now ≡ 0) }
+    {
+        self.len() == 0
+    }
+
     /// The value of a column.
     pub fn cell(&self, column: u8) -> Cell<'a>
         requires { column < length self.now }

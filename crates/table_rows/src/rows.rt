@@ -1,6 +1,6 @@
 //! The rows of a table with their indexes.
 
-ghost use Rattle.std.specs.Prelude.{◌≡◌, ◌⊎◌, ◌<◌, None, Some, Ok, Err, true, false, is_some, length, IfOk, IfSome, OnOk, OnErr, IfErr};
+ghost use Rattle.std.specs.Prelude.{◌≡◌, ◌⊎◌, ◌<◌, None, Some, Ok, Err, true, false, is_some, length, IfOk, IfSome, IfNone, OnOk, OnErr, IfErr};
 ghost use Rattle.std.specs.Option.{option_map, unwrap_or};
 ghost use Rattle.std.specs.Prelude.{[], slice_get};
 ghost use Rattle.std.specs.Int.{div_ceil};
@@ -133,6 +133,25 @@ impl TableRows {
         }
     }
 
+    /// As `delete`, and gives the row that was taken out.
+    pub fn take(&mut self, key: &Key) -> Result<Option<Vec<Value>>, AllocError>
+        ensures taken { IfOk result (λ row. option_map (λ r. r.items) row ≡ row_of_key self.old key.now) }
+        ensures deleted { OnOk result (self.new ≡ deleted self.old key.now) }
+        ensures back { IfOk result (λ row. IfSome row
+            (λ r. (inserted self.new r.items ≡ self.old) × CanInsert self.new r.items)) }
+        ensures same { IfOk result (λ row. IfNone row (self.new ≡ self.old)) }
+        ensures kept { OnErr result (self.new ≡ self.old) }
+    {
+        match changes::place_of(&self.slots, self.indexes.as_slice(), key) {
+            Some(place) => {
+                let row = self.slots.row(place).values(self.alloc)?;
+                changes::take_out(&mut self.slots, self.indexes.as_mut_slice(), place)?;
+                Ok(Some(row))
+            }
+            None => Ok(None),
+        }
+    }
+
     /// Puts a row in the place of the one whose primary key it has, and answers whether there was one.
     /// Where there was, it is refused, and the table stays as it was, for the first of the reasons of
     /// `insert`, with the other rows in mind. `NoMemory` is free.
@@ -163,6 +182,39 @@ impl TableRows {
                 Ok(true)
             }
             None => Ok(false),
+        }
+    }
+
+    /// As `update`, and gives the row that was there.
+    pub fn replace(&mut self, key: &Key, row: &[Value]) -> Result<Option<Vec<Value>>, RowFault>
+        requires count { length row.now ≡ length self.old.schema.fields }
+        requires stays { key.now ≡ row_key (primary_key self.old.schema) row.now }
+        ensures held { IfOk result (λ old. option_map (λ r. r.items) old ≡ row_of_key self.old key.now) }
+        ensures updated { IfOk result (λ old. IfSome old (λ _. self.new ≡ updated self.old row.now)) }
+        ensures back { IfOk result (λ old. IfSome old
+            (λ r. (updated self.new r.items ≡ self.old) × CanUpdate self.new r.items)) }
+        ensures same { IfOk result (λ old. IfNone old (self.new ≡ self.old)) }
+        ensures accepted { IfOk result (λ old. IfSome old
+            (λ _. row_fault (deleted self.old key.now) row.now ≡ None)) }
+        ensures refused { IfErr result (λ fault.
+            (fault ≡ RowFault.NoMemory) ⊎ (row_fault (deleted self.old key.now) row.now ≡ Some fault)) }
+        ensures missing { row_of_key self.old key.now ≡ None → result ≡ Ok None }
+        ensures kept { OnErr result (self.new ≡ self.old) }
+    {
+        match changes::place_of(&self.slots, self.indexes.as_slice(), key) {
+            Some(place) => {
+                let old = self.slots.row(place).values(self.alloc)?;
+                let mut tuple = Vec::new(self.alloc);
+                changes::pack(self.slots.layout(), row, &mut tuple)?;
+                changes::put_over(
+                    &mut self.slots,
+                    self.indexes.as_mut_slice(),
+                    place,
+                    tuple.as_slice(),
+                )?;
+                Ok(Some(old))
+            }
+            None => Ok(None),
         }
     }
 

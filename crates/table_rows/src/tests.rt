@@ -5,7 +5,7 @@ use row_codec::{Field, RowFault, RowLayout};
 use std::alloc::{AllocError, Global};
 use std::test::*;
 use volt_catalog::ColumnNos;
-use volt_index::{Key, end_of, key_of};
+use volt_index::Key;
 use volt_value::{ColType, Text, Value};
 
 /// A column of a type, and whether it takes NULL.
@@ -37,10 +37,11 @@ fn people(alloc: Global) -> Result<TableRows, AllocError> {
     TableRows::new(alloc, layout, keys)
 }
 
-/// A call that changes such a table. A row is given by its number, name and sum.
+/// A call that changes such a table. A row is given by its number, name and sum, or by its number alone.
 #[derive(Clone, Copy)]
 enum Call<'a> {
     Put(i64, &'a str, Option<i64>),
+    PutBare(Option<i64>),
     Change(i64, &'a str, Option<i64>),
     Take(i64),
 }
@@ -48,12 +49,35 @@ enum Call<'a> {
 /// Whether a call met a row.
 type Answer = Result<bool, RowFault>;
 
-fn person(alloc: Global, id: i64, name: &str, sum: Option<i64>) -> Result<[Value; 3], AllocError> {
-    let sum = match sum {
+fn integer(n: Option<i64>) -> Value {
+    match n {
         Some(n) => Value::Int(n),
         None => Value::Null,
+    }
+}
+
+fn person(
+    alloc: Global,
+    id: Option<i64>,
+    name: Option<&str>,
+    sum: Option<i64>,
+) -> Result<Vec<Value>, AllocError> {
+    let name = match name {
+        Some(name) => Value::Text(Text::of(alloc, name)?),
+        None => Value::Null,
     };
-    Ok([Value::Int(id), Value::Text(Text::of(alloc, name)?), sum])
+    let mut row = Vec::with_capacity(alloc, 3)?;
+    row.push(integer(id))?;
+    row.push(name)?;
+    row.push(integer(sum))?;
+    Ok(row)
+}
+
+/// The key of an integer. No list of values is made for it, since the proof that one is dropped is long.
+fn integer_key(alloc: Global, n: i64) -> Result<Key, AllocError> {
+    let mut key = Key::new(alloc);
+    key.push_integer(n)?;
+    Ok(key)
 }
 
 /// Puts a row in.
@@ -77,9 +101,16 @@ fn change(table: &mut TableRows, row: &[Value]) -> Answer {
 /// Makes one call.
 fn make(alloc: Global, table: &mut TableRows, call: &Call) -> Answer {
     match call {
-        Call::Put(id, name, sum) => put(table, &person(alloc, *id, *name, *sum)?),
-        Call::Change(id, name, sum) => change(table, &person(alloc, *id, *name, *sum)?),
-        Call::Take(id) => Ok(table.delete(&key_of(alloc, &[Value::Int(*id)])?)?),
+        Call::Put(id, name, sum) => put(
+            table,
+            person(alloc, Some(*id), Some(*name), *sum)?.as_slice(),
+        ),
+        Call::PutBare(id) => put(table, person(alloc, *id, None, None)?.as_slice()),
+        Call::Change(id, name, sum) => change(
+            table,
+            person(alloc, Some(*id), Some(*name), *sum)?.as_slice(),
+        ),
+        Call::Take(id) => Ok(table.delete(&integer_key(alloc, *id)?)?),
     }
 }
 
@@ -129,15 +160,18 @@ fn table_after(alloc: Global, calls: &[(Call, Answer)]) -> Result<TableRows, Fai
     }
 }
 
-/// The numbers of the rows after calls, in order of each of the three keys. There is no fourth.
-fn orders_after(alloc: Global, calls: &[(Call, Answer)]) -> Result<[i64; 4], Fail> {
-    let table = table_after(alloc, calls)?;
+/// The numbers of the rows in order of each of the three keys. There is no fourth.
+fn orders(alloc: Global, table: &TableRows) -> Result<[i64; 4], AllocError> {
     let mut orders = [0; 4];
     for number in 0..4 {
-        orders[number] = numbers(alloc, &table, number, None, None)?;
+        orders[number] = numbers(alloc, table, number, None, None)?;
     }
     Ok(orders)
 }
+
+const DUPLICATE: Answer = Err(RowFault::Duplicate);
+
+const LONG: Answer = Err(RowFault::TooLong);
 
 const FOUR: [(Call, Answer); 4] = [
     (Call::Put(3, "c", None), Ok(true)),
@@ -146,9 +180,71 @@ const FOUR: [(Call, Answer); 4] = [
     (Call::Put(4, "a", Some(5)), Ok(true)),
 ];
 
+/// Of several faults the first counts, and what is refused isn't there.
+const REFUSED: [(Call, Answer); 8] = [
+    (Call::Put(1, "b", Some(5)), Ok(true)),
+    (Call::Put(1, "c", None), DUPLICATE),
+    (Call::Put(2, "b", None), DUPLICATE),
+    (Call::Put(1, "abcde", None), LONG),
+    (
+        Call::Put(2147483648, "abcde", None),
+        Err(RowFault::OutOfRange),
+    ),
+    (Call::Put(2, "c", Some(5)), Ok(true)),
+    (Call::Change(2, "b", None), DUPLICATE),
+    (Call::Change(2, "abcde", None), LONG),
+];
+
+/// NULL is told before all other faults of a row, and no two rows have NULL in a key's column.
+const BARE: [(Call, Answer); 3] = [
+    (Call::PutBare(Some(1)), Ok(true)),
+    (Call::PutBare(Some(2)), DUPLICATE),
+    (Call::PutBare(None), Err(RowFault::NullInColumn)),
+];
+
+/// A change keeps one key and changes another, changes both, or keeps all.
+const CHANGED: [(Call, Answer); 6] = [
+    (Call::Put(1, "b", Some(5)), Ok(true)),
+    (Call::Put(2, "c", Some(6)), Ok(true)),
+    (Call::Change(1, "d", Some(5)), Ok(true)),
+    (Call::Change(3, "abcde", None), Ok(false)),
+    (Call::Change(2, "b", Some(4)), Ok(true)),
+    (Call::Change(2, "b", Some(4)), Ok(true)),
+];
+
+const TAKEN: [(Call, Answer); 6] = [
+    (Call::Put(1, "d", Some(5)), Ok(true)),
+    (Call::Put(2, "b", Some(4)), Ok(true)),
+    (Call::Take(2), Ok(true)),
+    (Call::Take(2), Ok(false)),
+    (Call::Change(2, "b", Some(4)), Ok(false)),
+    (Call::Put(3, "b", Some(4)), Ok(true)),
+];
+
+/// Calls, and the numbers of the rows after them, in order of each key.
+const RUNS: [(&[(Call, Answer)], [i64; 4]); 5] = [
+    (&FOUR, [1234, 4132, 3214, -1]),
+    (&REFUSED, [12, 12, 12, -1]),
+    (&BARE, [1, 1, 1, -1]),
+    (&CHANGED, [12, 21, 21, -1]),
+    (&TAKEN, [13, 31, 31, -1]),
+];
+
+/// The place of the first run that leaves other rows.
+fn first_other(alloc: Global) -> Result<Option<usize>, Fail> {
+    for i in 0..RUNS.len() {
+        let (calls, wanted) = &RUNS[i];
+        let table = table_after(alloc, calls)?;
+        if orders(alloc, &table)? != *wanted {
+            return Ok(Some(i));
+        }
+    }
+    Ok(None)
+}
+
 #[test]
-fn rows_come_in_order_of_each_key(rt: HostRuntime) -> Result<(), Fail> {
-    assert_eq!(rt; orders_after(rt.alloc(), &FOUR)?, [1234, 4132, 3214, -1]);
+fn calls_answer_and_rows_come_in_order_of_each_key(rt: HostRuntime) -> Result<(), Fail> {
+    assert_eq!(rt; first_other(rt.alloc())?, None);
     Ok(())
 }
 
@@ -156,11 +252,14 @@ fn rows_come_in_order_of_each_key(rt: HostRuntime) -> Result<(), Fail> {
 type Bound = Option<(i64, bool)>;
 
 fn key_at(alloc: Global, bound: Bound) -> Result<Option<Key>, AllocError> {
-    match bound {
-        Some((sum, true)) => Ok(Some(end_of(alloc, &[Value::Int(sum)])?)),
-        Some((sum, false)) => Ok(Some(key_of(alloc, &[Value::Int(sum)])?)),
-        None => Ok(None),
+    let Some((sum, is_end)) = bound else {
+        return Ok(None);
+    };
+    let mut key = integer_key(alloc, sum)?;
+    if is_end {
+        key.push_end()?;
     }
+    Ok(Some(key))
 }
 
 /// The numbers of the four rows, by their sums, from one bound on and before another.
@@ -185,76 +284,35 @@ fn rows_come_between_bounds(rt: HostRuntime) -> Result<(), Fail> {
     Ok(())
 }
 
-const DUPLICATE: Answer = Err(RowFault::Duplicate);
-
-const LONG: Answer = Err(RowFault::TooLong);
-
-/// Of several faults the first counts, and what is refused isn't there.
-const REFUSED: [(Call, Answer); 8] = [
-    (Call::Put(1, "b", Some(5)), Ok(true)),
-    (Call::Put(1, "c", None), DUPLICATE),
-    (Call::Put(2, "b", None), DUPLICATE),
-    (Call::Put(1, "abcde", None), LONG),
-    (
-        Call::Put(2147483648, "abcde", None),
-        Err(RowFault::OutOfRange),
-    ),
-    (Call::Put(2, "c", Some(5)), Ok(true)),
-    (Call::Change(2, "b", None), DUPLICATE),
-    (Call::Change(2, "abcde", None), LONG),
-];
-
-#[test]
-fn faults_of_rows_come_in_order(rt: HostRuntime) -> Result<(), Fail> {
-    assert_eq!(rt; orders_after(rt.alloc(), &REFUSED)?, [12, 12, 12, -1]);
-    Ok(())
+/// Whether a row is there and is the one of this number, name and sum.
+fn is_person(
+    alloc: Global,
+    row: Option<Row<'_>>,
+    id: i64,
+    name: &str,
+    sum: i64,
+) -> Result<bool, AllocError> {
+    let Some(row) = row else {
+        return Ok(false);
+    };
+    let wanted = person(alloc, Some(id), Some(name), Some(sum))?;
+    Ok(row.len() == 3 && row.values(alloc)?.as_slice() == wanted.as_slice())
 }
 
-const CHANGED: [(Call, Answer); 5] = [
-    (Call::Put(1, "b", Some(5)), Ok(true)),
-    (Call::Put(2, "c", Some(6)), Ok(true)),
-    (Call::Change(1, "d", Some(5)), Ok(true)),
-    (Call::Change(3, "abcde", None), Ok(false)),
-    (Call::Change(2, "b", Some(4)), Ok(true)),
-];
-
-const TAKEN: [(Call, Answer); 6] = [
-    (Call::Put(1, "d", Some(5)), Ok(true)),
-    (Call::Put(2, "b", Some(4)), Ok(true)),
-    (Call::Take(2), Ok(true)),
-    (Call::Take(2), Ok(false)),
-    (Call::Change(2, "b", Some(4)), Ok(false)),
-    (Call::Put(3, "b", Some(4)), Ok(true)),
-];
-
-#[test]
-fn rows_are_changed_and_taken_out(rt: HostRuntime) -> Result<(), Fail> {
-    assert_eq!(rt; orders_after(rt.alloc(), &CHANGED)?, [12, 21, 21, -1]);
-    assert_eq!(rt; orders_after(rt.alloc(), &TAKEN)?, [13, 31, 31, -1]);
-    Ok(())
-}
-
-/// A row as it is written for debugging.
-fn shown(alloc: Global, row: Option<Row<'_>>) -> Result<String, AllocError> {
-    match row {
-        Some(row) => format!(in alloc; "{:?}", row.values(alloc)?.as_slice()),
-        None => String::from_str(alloc, "none"),
-    }
-}
-
-/// The row of a number after calls.
-fn row_after(alloc: Global, calls: &[(Call, Answer)], id: i64) -> Result<String, Fail> {
-    let key = key_of(alloc, &[Value::Int(id)])?;
+/// Whether the second row is found by its number after calls, and is the one of this name and sum.
+fn has_second(alloc: Global, calls: &[(Call, Answer)]) -> Result<bool, Fail> {
+    let key = integer_key(alloc, 2)?;
     let table = table_after(alloc, calls)?;
-    Ok(shown(alloc, table.get(&key))?)
+    Ok(is_person(alloc, table.get(&key), 2, "b", 4)?)
 }
 
 #[test]
 fn rows_are_found_by_their_key(rt: HostRuntime) -> Result<(), Fail> {
-    let alloc = rt.alloc();
-    let wanted = "[Int(2), Text(Text { held: \"b\" }), Int(4)]";
-    assert_eq!(rt; row_after(alloc, &CHANGED, 2)?.as_str(), wanted);
-    assert_eq!(rt; row_after(alloc, &TAKEN, 2)?.as_str(), "none");
+    let found = (
+        has_second(rt.alloc(), &CHANGED)?,
+        has_second(rt.alloc(), &TAKEN)?,
+    );
+    assert_eq!(rt; found, (true, false));
     Ok(())
 }
 
@@ -264,32 +322,59 @@ const MOVED: [(Call<'static>, Answer); 3] = [
     (Call::Take(1), Ok(true)),
 ];
 
+/// In how many blocks the rows stand after calls when they are moved together, and their numbers.
+fn moved_after(alloc: Global, calls: &[(Call, Answer)]) -> Result<(u32, [i64; 4]), Fail> {
+    let mut table = table_after(alloc, calls)?;
+    let blocks = table.compact()?;
+    Ok((blocks, orders(alloc, &table)?))
+}
+
 /// The last row goes to the place that was free, and every key finds it there.
 #[test]
 fn rows_are_found_where_they_moved(rt: HostRuntime) -> Result<(), Fail> {
-    let alloc = rt.alloc();
-    let mut table = table_after(alloc, &MOVED)?;
-    assert_eq!(rt; table.compact()?, 1);
-    assert_eq!(rt; numbers(alloc, &table, 1, None, None)?, 2);
-    assert_eq!(rt; numbers(alloc, &table, 2, None, None)?, 2);
+    assert_eq!(rt; moved_after(rt.alloc(), &MOVED)?, (1, [2, 2, 2, -1]));
     Ok(())
 }
 
-/// NULL is told before all other faults of a row, and no two rows have NULL in a key's column.
+const OLD: [(Call<'static>, Answer); 2] = [
+    (Call::Put(1, "d", Some(5)), Ok(true)),
+    (Call::Put(2, "b", Some(4)), Ok(true)),
+];
+
+/// Puts a row in the place of the second, and gives what was there.
+fn replaced(alloc: Global, table: &mut TableRows) -> Result<i64, RowFault> {
+    let key = integer_key(alloc, 2)?;
+    let row = person(alloc, Some(2), Some("c"), Some(7))?;
+    if table.layout().fields().len() != row.len() || table.key_of(row.as_slice())? != key {
+        return Ok(-2);
+    }
+    Ok(last(table.replace(&key, row.as_slice())?))
+}
+
+/// Takes the second row out, and gives what it was.
+fn taken(alloc: Global, table: &mut TableRows) -> Result<i64, AllocError> {
+    let key = integer_key(alloc, 2)?;
+    Ok(last(table.take(&key)?))
+}
+
+/// What was in the place of a row that is put over the second one, and what is taken out then, twice.
+fn old_rows(alloc: Global) -> Result<(i64, i64, i64), Fail> {
+    let mut table = table_after(alloc, &OLD)?;
+    let before = replaced(alloc, &mut table)?;
+    let after = taken(alloc, &mut table)?;
+    Ok((before, after, taken(alloc, &mut table)?))
+}
+
+/// The last value of a row, -1 where there is none.
+fn last(row: Option<Vec<Value>>) -> i64 {
+    match row.as_ref().and_then(|row| row.last()) {
+        Some(Value::Int(n)) => *n,
+        _ => -1,
+    }
+}
+
 #[test]
-fn null_is_a_value_of_a_key(rt: HostRuntime) -> Result<(), Fail> {
-    let mut table = people(rt.alloc())?;
-    assert_eq!(rt;
-        put(&mut table, &[Value::Int(1), Value::Null, Value::Null]),
-        Ok(true)
-    );
-    assert_eq!(rt;
-        put(&mut table, &[Value::Int(2), Value::Null, Value::Null]),
-        Err(RowFault::Duplicate)
-    );
-    assert_eq!(rt;
-        put(&mut table, &[Value::Null, Value::Null, Value::Null]),
-        Err(RowFault::NullInColumn)
-    );
+fn old_rows_are_given_back(rt: HostRuntime) -> Result<(), Fail> {
+    assert_eq!(rt; old_rows(rt.alloc())?, (4, 7, -1));
     Ok(())
 }

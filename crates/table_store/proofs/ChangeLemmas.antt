@@ -1,9 +1,10 @@
 -- A change of one table that is noted.
-use Rattle.std.proofs.Common.{◌≡◌, ℕ, zero, suc, ◌<◌, Bool, true, false, Vec, get_or, List, [], ◌∷◌, ◌++◌, length, Option, Some, None, is_some, IfSome, refl, sym, ap, ap₂, ◌∙◌, subst, arith}
-use Rattle.std.proofs.lemmas.Bool.{false≢true}
+use Rattle.std.proofs.Common.{◌≡◌, ℕ, zero, suc, ◌<◌, Bool, true, false, cond, inl, inr, Vec, get_or, List, [], ◌∷◌, ◌++◌, length, Option, Some, None, is_some, IfSome, refl, sym, ap, ap₂, ◌∙◌, subst, arith}
+use Rattle.std.proofs.lemmas.Bool.{cases_Bool}
+use Rattle.std.proofs.lemmas.Slice.Eq.{bytes_eq-Decides}
 use Rattle.volt_value.specs.declared.value.Value.{Value}
 use Rattle.table_rows.specs.Order.{row_key}
-use Rattle.table_rows.specs.Table.{Table, primary_key, inserted, deleted, updated, row_fault, row_of_key, CanInsert, CanUpdate}
+use Rattle.table_rows.specs.Table.{Table, primary_key, has_key, inserted, deleted, updated, find_row, row_of_key, CanInsert, CanUpdate}
 use Rattle.table_store.specs.declared.step.Step.{Step}
 use Rattle.table_store.specs.declared.step.Step.TheVariants.{Inserted, Deleted, Updated}
 use Rattle.table_store.specs.Steps.{Store, table_at, with_table, undone, past_of, CanUndo, AreUndoable, changed}
@@ -39,47 +40,56 @@ insert_done steps after tables number key row t u new within here also key_is ne
     (back_with (λ (x : Table). deleted x key) tables number new within (ap (deleted new) (key_is ∙ ap (λ (x : Table). row_key (primary_key x.schema) row) same) ∙ back ∙ at))
     (still_within tables number new within) (new_is ∙ ap (λ (x : Table). inserted x row) at) are
 
-pub delete_done : (steps after : List Step) (tables : List Table) (number : ℕ) (key : List ℕ) (step : Step) (row old : List Value) (held : Bool) (t u new : Table) → number < length tables → t ≡ get_or tables number t → u ≡ get_or tables number u
-    → Some old ≡ row_of_key u key → row ≡ old → held ≡ is_some (row_of_key t key) → new ≡ deleted t key
-    → (held ≡ true → IfSome (row_of_key t key) (λ r. (inserted new r ≡ t) × CanInsert new r))
+pub delete_done : (steps after : List Step) (tables : List Table) (number : ℕ) (key : List ℕ) (step : Step) (row : List Value) (t new : Table) → number < length tables → t ≡ get_or tables number t
+    → new ≡ deleted t key → (inserted new row ≡ t) × CanInsert new row
     → undone step (with_table tables number new) ≡ with_table (with_table tables number new) number (inserted (table_at (with_table tables number new) number) row)
     → ((number < length (with_table tables number new)) × CanInsert (table_at (with_table tables number new) number) row → CanUndo step (with_table tables number new))
     → after ≡ steps ++ step ∷ [] → AreUndoable steps tables
     → IsNoted steps after tables (with_table tables number new) (with_table tables number (deleted (table_at tables number) key))
-delete_done steps after tables number key step row old held t u new within here also got row_is held_is new_is back undone_is can_is after_is are =
+delete_done steps after tables number key step row t new within here new_is undoes undone_is can_is after_is are =
     let at : t ≡ table_at tables number = here_is tables number t within here in
-    let same : u ≡ t = here_is tables number u within also ∙ sym at in
-    let found : row_of_key t key ≡ Some old = sym (got ∙ ap (λ (x : Table). row_of_key x key) same) in
-    let undoes : (inserted new old ≡ t) × CanInsert new old = subst (λ (o : Option (List Value)). IfSome o (λ r. (inserted new r ≡ t) × CanInsert new r)) found (back (held_is ∙ ap is_some found)) in
     noted steps after step tables number new (deleted (table_at tables number) key) after_is
-    (undone_is ∙ back_with (λ (x : Table). inserted x row) tables number new within (ap (inserted new) row_is ∙ undoes.0 ∙ at))
-    (can_is (still_within tables number new within, subst (λ (x : Table). CanInsert x row) (sym (at_with tables number new within)) (subst (CanInsert new) (sym row_is) undoes.1)))
+    (undone_is ∙ back_with (λ (x : Table). inserted x row) tables number new within (undoes.0 ∙ at))
+    (can_is (still_within tables number new within, subst (λ (x : Table). CanInsert x row) (sym (at_with tables number new within)) undoes.1))
     (new_is ∙ ap (λ (x : Table). deleted x key) at) are
 
-pub update_done : (steps after : List Step) (tables : List Table) (number : ℕ) (key old_key : List ℕ) (step : Step) (row packed old : List Value) (held : Bool) (t u v new : Table) → number < length tables → t ≡ get_or tables number t → u ≡ get_or tables number u → v ≡ get_or tables number v
-    → Some old ≡ row_of_key u key → packed ≡ old → old_key ≡ row_key (primary_key v.schema) packed → held ≡ is_some (row_of_key t key) → (held ≡ true → new ≡ updated t row)
-    → (held ≡ true → IfSome (row_of_key t key) (λ r. (updated new r ≡ t) × CanUpdate new r))
-    → undone step (with_table tables number new) ≡ with_table (with_table tables number new) number (updated (table_at (with_table tables number new) number) packed)
-    → ((number < length (with_table tables number new)) × (old_key ≡ row_key (primary_key (table_at (with_table tables number new) number).schema) packed) × CanUpdate (table_at (with_table tables number new) number) packed → CanUndo step (with_table tables number new))
+-- the row of a key has this key
+found_passes : (test : List Value → Bool) (rows : List (List Value)) (row : List Value) → find_row test rows ≡ Some row → test row ≡ true
+found_passes test [] row found = absurd cc
+found_passes test (r ∷ rows) row found = elim (cases_Bool (test r)) [
+  | inl hit ↦ sym (ap test (some_is (sym (ap (λ b. cond b (Some r) (find_row test rows)) hit) ∙ found))) ∙ hit
+  | inr miss ↦ found_passes test rows row (sym (ap (λ b. cond b (Some r) (find_row test rows)) miss) ∙ found)
+]
+  where
+    some_is : {a b : List Value} → Some a ≡ Some b → a ≡ b
+    some_is h = cc
+
+key_of_row : (t : Table) (key : List ℕ) (row : List Value) → row_of_key t key ≡ Some row → key ≡ row_key (primary_key t.schema) row
+key_of_row t key row found =
+    (bytes_eq-Decides key (row_key (primary_key t.schema) row)).0 (found_passes (has_key (primary_key t.schema) key) t.rows row found)
+
+pub update_done : (steps after : List Step) (tables : List Table) (number : ℕ) (key old_key : List ℕ) (step : Step) (row old : List Value) (t u new : Table) → number < length tables → t ≡ get_or tables number t → u ≡ get_or tables number u
+    → row_of_key t key ≡ Some old → key ≡ row_key (primary_key (table_at tables number).schema) row → old_key ≡ row_key (primary_key u.schema) row → new ≡ updated t row
+    → (updated new old ≡ t) × CanUpdate new old
+    → undone step (with_table tables number new) ≡ with_table (with_table tables number new) number (updated (table_at (with_table tables number new) number) old)
+    → ((number < length (with_table tables number new)) × (old_key ≡ row_key (primary_key (table_at (with_table tables number new) number).schema) old) × CanUpdate (table_at (with_table tables number new) number) old → CanUndo step (with_table tables number new))
     → after ≡ steps ++ step ∷ [] → AreUndoable steps tables
     → IsNoted steps after tables (with_table tables number new) (with_table tables number (updated (table_at tables number) row))
-update_done steps after tables number key old_key step row packed old held t u v new within here also third got packed_is key_is held_is new_is back undone_is can_is after_is are =
+update_done steps after tables number key old_key step row old t u new within here also found stays key_is new_is undoes undone_is can_is after_is are =
     let at : t ≡ table_at tables number = here_is tables number t within here in
-    let same : u ≡ t = here_is tables number u within also ∙ sym at in
-    let like : v ≡ t = here_is tables number v within third ∙ sym at in
-    let found : row_of_key t key ≡ Some old = sym (got ∙ ap (λ (x : Table). row_of_key x key) same) in
-    let is : held ≡ true = held_is ∙ ap is_some found in
-    let undoes : (updated new old ≡ t) × CanUpdate new old = subst (λ (o : Option (List Value)). IfSome o (λ r. (updated new r ≡ t) × CanUpdate new r)) found (back is) in
-    let schema : v.schema ≡ new.schema = ap (λ (x : Table). x.schema) like ∙ sym (ap (λ (x : Table). x.schema) (new_is is)) in
+    let like : u ≡ table_at tables number = here_is tables number u within also in
+    let schema : t.schema ≡ new.schema = sym (ap (λ (x : Table). x.schema) new_is) in
     let here_after = at_with tables number new within in
+    let old_key_is : old_key ≡ row_key (primary_key new.schema) old =
+    key_is ∙ ap (λ (x : Table). row_key (primary_key x.schema) row) like ∙ sym stays ∙ key_of_row t key old found ∙ ap (λ x. row_key (primary_key x) old) schema in
     noted steps after step tables number new (updated (table_at tables number) row) after_is
-    (undone_is ∙ back_with (λ (x : Table). updated x packed) tables number new within (ap (updated new) packed_is ∙ undoes.0 ∙ at))
+    (undone_is ∙ back_with (λ (x : Table). updated x old) tables number new within (undoes.0 ∙ at))
     (can_is (
       still_within tables number new within,
-      subst (λ (x : Table). old_key ≡ row_key (primary_key x.schema) packed) (sym here_after) (key_is ∙ ap (λ x. row_key (primary_key x) packed) schema),
-      subst (λ (x : Table). CanUpdate x packed) (sym here_after) (subst (CanUpdate new) (sym packed_is) undoes.1),
+      subst (λ (x : Table). old_key ≡ row_key (primary_key x.schema) old) (sym here_after) old_key_is,
+      subst (λ (x : Table). CanUpdate x old) (sym here_after) undoes.1,
     ))
-    (new_is is ∙ ap (λ (x : Table). updated x row) at) are
+    (new_is ∙ ap (λ (x : Table). updated x row) at) are
 
 -- ---- what was there before
 
@@ -93,8 +103,3 @@ update_undone tables number key row held t new within key_is can here held_is ne
     let at : t ≡ table_at tables number = here_is tables number t within here in
     let is : held ≡ true = held_is ∙ ap₂ (λ (x : Table) (k : List ℕ). is_some (row_of_key x k)) at key_is ∙ can.held in
     ap (with_table tables number) (new_is is ∙ ap (λ (x : Table). updated x row) at)
-
-pub held_true : (tables : List Table) (number : ℕ) (key : List ℕ) (old : List Value) (held : Bool) (t u : Table) → number < length tables → t ≡ get_or tables number t → u ≡ get_or tables number u → Some old ≡ row_of_key u key
-    → held ≡ is_some (row_of_key t key) → held ≡ true
-held_true tables number key old held t u within here also got held_is =
-    held_is ∙ ap (λ (x : Table). is_some (row_of_key x key)) (here_is tables number t within here ∙ sym (here_is tables number u within also)) ∙ sym (ap is_some got)

@@ -111,13 +111,10 @@ impl Tables {
         ensures same { result ≡ Ok false → self.new ≡ self.old }
         ensures kept { OnErr result (self.new ≡ self.old) }
     {
-        let at = number as usize;
-        let Some(row) = self.tables[at].get(key) else {
+        self.undo.reserve(1)?;
+        let Some(row) = self.tables[number as usize].take(key)? else {
             return Ok(false);
         };
-        let row = row.values(self.alloc)?;
-        self.undo.reserve(1)?;
-        self.tables[at].delete(key)?;
         self.undo.note(Step::Deleted(number, row));
         Ok(true)
     }
@@ -138,13 +135,12 @@ impl Tables {
         ensures kept { OnErr result (self.new ≡ self.old) }
     {
         let at = number as usize;
-        let Some(old) = self.tables[at].get(key) else {
+        // The old row has the same key.
+        let old_key = self.tables[at].key_of(row)?;
+        self.undo.reserve(1)?;
+        let Some(old) = self.tables[at].replace(key, row)? else {
             return Ok(false);
         };
-        let old = old.values(self.alloc)?;
-        let old_key = self.tables[at].key_of(old.as_slice())?;
-        self.undo.reserve(1)?;
-        self.tables[at].update(key, row)?;
         self.undo.note(Step::Updated(number, old_key, old));
         Ok(true)
     }

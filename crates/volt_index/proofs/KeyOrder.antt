@@ -1,9 +1,10 @@
 -- The byte order of the spellings of lists is the order of the lists.
-use Rattle.std.proofs.Common.{◌≡◌, ℕ, zero, suc, ◌+◌, ◌*◌, ◌/◌, ◌%◌, ◌^◌, ◌<◌, ◌≤◌, List, [], ◌∷◌, ◌++◌, length, take, map, ℤ, pos, negsuc, inl, inr, refl, sym, ap, ap₂, ◌∙◌, arith, append_assoc, add_comm, FitsSigned}
+use Rattle.std.proofs.Common.{◌≡◌, ℕ, zero, suc, ◌+◌, ◌*◌, ◌/◌, ◌%◌, ◌^◌, ◌<◌, ◌≤◌, List, [], ◌∷◌, ◌++◌, length, take, drop, map, ℤ, pos, negsuc, inl, inr, refl, sym, ap, ap₂, ◌∙◌, arith, append_assoc, add_comm, FitsSigned}
 use Rattle.std.proofs.Math.Nat.{pow-suc, mul-suc, mul-le-mul_right}
 use Rattle.std.proofs.lemmas.Bool.{cases_lt}
 use Rattle.std.proofs.lemmas.Bool.Decides.{nat_tests}
 use Rattle.std.proofs.lemmas.Int.{ints}
+use Rattle.std.proofs.lemmas.List.{take-append-drop}
 use Rattle.std.proofs.lemmas.Nat.{pow-add, pow_pos, mod-pow-add, mod_below}
 use Rattle.std.specs.Int.{w64, to_be_bytes, bytes_high_first, byte_at}
 use Rattle.std.specs.Cmp.Lexicographic.{slice_cmp}
@@ -87,6 +88,14 @@ bytes_step (suc k) m n x y =
 rest_all : (n : ℕ) → n < 2 ^ 64 → rest_of 8 n ≡ n
 unfolding rest_of
 rest_all n fits = omega arith
+
+-- eight bytes decide as the number that they spell, and then the rest
+pub words_first : (a b : List ℕ) (m n : ℕ) → to_be_bytes w64 m ≡ take 8 a → to_be_bytes w64 n ≡ take 8 b → m < 2 ^ 64 → n < 2 ^ 64
+    → slice_cmp nat_cmp a b ≡ ordering_then (nat_cmp m n) (slice_cmp nat_cmp (drop 8 a) (drop 8 b))
+words_first a b m n a-is b-is m-fits n-fits =
+    ap₂ (slice_cmp nat_cmp) (sym (take-append-drop 8 a) ∙ ap (λ front. front ++ drop 8 a) (sym a-is)) (sym (take-append-drop 8 b) ∙ ap (λ front. front ++ drop 8 b) (sym b-is))
+    ∙ bytes_step 8 m n (drop 8 a) (drop 8 b)
+    ∙ ap₂ (λ (x y : ℕ). ordering_then (nat_cmp x y) (slice_cmp nat_cmp (drop 8 a) (drop 8 b))) (rest_all m m-fits) (rest_all n n-fits)
 
 raised_below : (z : ℤ) → FitsSigned w64 z → raised z < 2 ^ 64
 raised_below (pos n) fits = omega (arith, ints)

@@ -1,6 +1,7 @@
 //! What an index's ordered map is sorted by.
 
-ghost use Rattle.std.specs.Prelude.{◌≡◌, [], Some, refl, IfOk};
+ghost use Rattle.std.specs.Prelude.{◌≡◌, ◌≤◌, [], Some, refl, length, take, IfOk};
+ghost use Rattle.std.specs.Int.{w64, to_be_bytes};
 ghost use Rattle.std.specs.Cmp.{partial_order_from_total, partial_equiv_from_equiv};
 ghost use Rattle.std.specs.Cmp.Lexicographic.{slice_cmp};
 ghost use Rattle.std.specs.Ordering.{nat_cmp, eq_by_cmp};
@@ -57,11 +58,29 @@ impl Entry {
     }
 }
 
-// Both at one lifetime, so that the borrow checker covers the call.
+/// The number whose bytes, high ones first, are the first eight of these.
+fn first_word(bytes: &[u8]) -> u64
+    requires { 8 ≤ length bytes.now }
+    ensures { to_be_bytes w64 result ≡ take 8 bytes.now }
+{
+    u64::from_be_bytes([
+        bytes[0], bytes[1], bytes[2], bytes[3], bytes[4], bytes[5], bytes[6], bytes[7],
+    ])
+}
+
+// Eight bytes at a time, since most keys of a search differ in the first or the second eight.
+// All at one lifetime, so that the borrow checker covers the calls.
 fn compare_bytes<'a>(a: &'a [u8], b: &'a [u8]) -> Ordering
     ensures { result ≡ slice_cmp nat_cmp a.now b.now }
 {
-    a.cmp(b)
+    if a.len() < 8 || b.len() < 8 {
+        return a.cmp(b);
+    }
+    let order = first_word(a).cmp(&first_word(b));
+    if order != Ordering::Equal {
+        return order;
+    }
+    compare_bytes(&a[8..], &b[8..])
 }
 
 impl PartialEq for Entry {
