@@ -133,67 +133,58 @@ fn wide_fault(alloc: Global, columns: usize, key: usize) -> Result<Option<Catalo
     fault_in(alloc, &mut definitions, text.as_str())
 }
 
-#[test]
-fn a_table_is_defined(rt: HostRuntime) -> Result<(), Fail> {
-    let alloc = rt.alloc();
-    let text = "
-CREATE TABLE Acct (id SMALLINT, owner VARCHAR(20 BYTES) NOT NULL, bal BIGINT, CONSTRAINT k PRIMARY KEY (OWNER, id));";
+/// What a text defines, as it is written for debugging.
+fn defined(alloc: Global, text: &str) -> Result<String, Fail> {
     let mut definitions = Definitions::new(alloc);
-    assert_eq!(rt; fault_in(alloc, &mut definitions, text)?, None);
-    assert_eq!(rt; definitions.catalog.tables().len(), 1);
-    let acct = &definitions.catalog.tables()[0];
-    assert_eq!(rt; acct.name.as_str(), "Acct");
-    assert_eq!(rt; acct.key.as_slice(), [1, 0].as_slice());
-    assert_eq!(rt; acct.part, None);
-    let wanted = [
-        ("id", ColType::Small, false),
-        ("owner", ColType::Varchar(20), true),
-        ("bal", ColType::Big, false),
-    ];
-    let columns = acct.columns.as_slice();
-    assert_eq!(rt; columns.len(), 3);
-    for i in 0..3 {
-        let column = &columns[i];
-        assert_eq!(rt;
-            (column.name.as_str(), column.kind, column.not_null),
-            wanted[i]
-        );
+    if fault_in(alloc, &mut definitions, text)?.is_some() {
+        return Err("refused".into());
     }
-    Ok(())
+    let (catalog, procedures) = (&definitions.catalog, definitions.procedures.as_slice());
+    let (tables, indexes) = (catalog.tables(), catalog.indexes());
+    Ok(format!(in alloc; "{tables:?} {indexes:?} {procedures:?}")?)
 }
 
-#[test]
-fn an_index_and_a_partitioning_are_defined(rt: HostRuntime) -> Result<(), Fail> {
-    let alloc = rt.alloc();
-    let text = "
+const TABLE: &str = "
+CREATE TABLE Acct (id SMALLINT, owner VARCHAR(20 BYTES) NOT NULL, bal BIGINT, CONSTRAINT k PRIMARY KEY (OWNER, id));";
+
+const INDEX: &str = "
 CREATE TABLE s (x BIGINT PRIMARY KEY);
 CREATE TABLE t (a BIGINT PRIMARY KEY, b BIGINT);
 CREATE UNIQUE INDEX By_B ON T (B, a);
 PARTITION TABLE t ON COLUMN a;";
-    let mut definitions = Definitions::new(alloc);
-    assert_eq!(rt; fault_in(alloc, &mut definitions, text)?, None);
-    let (tables, indexes) = (definitions.catalog.tables(), definitions.catalog.indexes());
-    assert_eq!(rt; (tables.len(), indexes.len()), (2, 1));
-    assert_eq!(rt; (tables[0].part, tables[1].part), (None, Some(0)));
-    let index = &indexes[0];
-    assert_eq!(rt; index.name.as_str(), "By_B");
-    assert_eq!(rt; (index.table, index.unique), (1, true));
-    assert_eq!(rt; index.columns.as_slice(), [1, 0].as_slice());
-    Ok(())
-}
+
+/// Texts with what they define.
+const DEFINED: [(&str, &str); 3] = [
+    (
+        TABLE,
+        "[Table { name: Text { held: \"Acct\" }, columns: Columns { held: [\
+         Column { name: Text { held: \"id\" }, kind: Small, not_null: false }, \
+         Column { name: Text { held: \"owner\" }, kind: Varchar(20), not_null: true }, \
+         Column { name: Text { held: \"bal\" }, kind: Big, not_null: false }] }, \
+         key: ColumnNos { held: [1, 0] }, part: None }] [] []",
+    ),
+    (
+        INDEX,
+        "[Table { name: Text { held: \"s\" }, columns: Columns { held: [\
+         Column { name: Text { held: \"x\" }, kind: Big, not_null: false }] }, \
+         key: ColumnNos { held: [0] }, part: None }, \
+         Table { name: Text { held: \"t\" }, columns: Columns { held: [\
+         Column { name: Text { held: \"a\" }, kind: Big, not_null: false }, \
+         Column { name: Text { held: \"b\" }, kind: Big, not_null: false }] }, \
+         key: ColumnNos { held: [0] }, part: Some(0) }] \
+         [IndexDef { name: Text { held: \"By_B\" }, table: 1, columns: ColumnNos { held: [1, 0] }, unique: true }] []",
+    ),
+    (
+        "CREATE PROCEDURE Both AS SELECT a.x FROM a JOIN B ON a.x = B.x;",
+        "[] [] [DefinedProcedure { name: Text { held: \"Both\" }, \
+         tables: Items { items: [Text { held: \"a\" }, Text { held: \"B\" }] } }]",
+    ),
+];
 
 #[test]
-fn a_procedure_is_noted(rt: HostRuntime) -> Result<(), Fail> {
-    let alloc = rt.alloc();
-    let text = "CREATE PROCEDURE Both AS SELECT a.x FROM a JOIN B ON a.x = B.x;";
-    let mut definitions = Definitions::new(alloc);
-    assert_eq!(rt; fault_in(alloc, &mut definitions, text)?, None);
-    assert_eq!(rt; definitions.procedures.len(), 1);
-    if let Some(both) = definitions.procedures.get(0) {
-        assert_eq!(rt; both.name.as_str(), "Both");
-        let tables = both.tables.as_slice();
-        assert_eq!(rt; tables.len(), 2);
-        assert_eq!(rt; tables[1].as_str(), "B");
+fn tables_indexes_and_procedures_are_defined(rt: HostRuntime) -> Result<(), Fail> {
+    for (text, wanted) in DEFINED {
+        assert_eq!(rt; defined(rt.alloc(), text)?.as_str(), wanted);
     }
     Ok(())
 }
@@ -342,33 +333,59 @@ CREATE PROCEDURE q AS INSERT INTO e VALUES (1);";
     Ok(())
 }
 
-#[test]
-fn procedures_are_few(rt: HostRuntime) -> Result<(), Fail> {
-    let alloc = rt.alloc();
+/// Defines a procedure of this name, and answers why it is refused.
+fn procedure_fault(
+    alloc: Global,
+    definitions: &mut Definitions,
+    name: &str,
+) -> Result<Option<CatalogFault>, Fail> {
+    let text = format!(in alloc; "CREATE PROCEDURE {name} AS DELETE FROM a;")?;
+    fault_in(alloc, definitions, text.as_str())
+}
+
+/// The procedures `p0` to `p255`.
+fn full(alloc: Global) -> Result<Definitions, Fail> {
     let mut definitions = Definitions::new(alloc);
     for i in 0..256 {
-        let text = format!(in alloc; "CREATE PROCEDURE p{i} AS DELETE FROM a;")?;
-        assert_eq!(rt; fault_in(alloc, &mut definitions, text.as_str())?, None);
+        let name = format!(in alloc; "p{i}")?;
+        if procedure_fault(alloc, &mut definitions, name.as_str())?.is_some() {
+            return Err("refused".into());
+        }
     }
-    let more = "CREATE PROCEDURE p256 AS DELETE FROM a;";
-    assert_eq!(rt; fault_in(alloc, &mut definitions, more)?, MANY);
-    let again = "CREATE PROCEDURE P255 AS DELETE FROM a;";
-    assert_eq!(rt; fault_in(alloc, &mut definitions, again)?, DUPLICATE);
+    Ok(definitions)
+}
+
+#[test]
+fn procedures_are_few(rt: HostRuntime) -> Result<(), Fail> {
+    let mut definitions = full(rt.alloc())?;
+    for (name, wanted) in [("p256", MANY), ("P255", DUPLICATE)] {
+        assert_eq!(rt;
+            procedure_fault(rt.alloc(), &mut definitions, name)?,
+            wanted
+        );
+    }
     assert_eq!(rt; definitions.procedures.len(), 256);
     Ok(())
 }
 
+/// Types as they are written, with those of columns.
+const TYPES: [(TypeName, ColType); 4] = [
+    (TypeName::Tinyint, ColType::Tiny),
+    (TypeName::Integer, ColType::Integer),
+    (TypeName::Varchar(65535), ColType::Varchar(65535)),
+    (TypeName::Varchar(65536), ColType::Varchar(65535)),
+];
+
 #[test]
-fn types_and_faults_have_numbers(rt: HostRuntime) -> Result<(), Fail> {
-    let types = [
-        (TypeName::Tinyint, ColType::Tiny),
-        (TypeName::Integer, ColType::Integer),
-        (TypeName::Varchar(65535), ColType::Varchar(65535)),
-        (TypeName::Varchar(65536), ColType::Varchar(65535)),
-    ];
-    for (written, kind) in types {
+fn types_are_those_of_columns(rt: HostRuntime) -> Result<(), Fail> {
+    for (written, kind) in TYPES {
         assert_eq!(rt; col_type(written), kind);
     }
+    Ok(())
+}
+
+#[test]
+fn faults_have_numbers(rt: HostRuntime) -> Result<(), Fail> {
     assert_eq!(rt; code(CatalogFault::DuplicateName), 8);
     assert_eq!(rt; code(CatalogFault::TooMany), 13);
     Ok(())

@@ -17,7 +17,7 @@ fn is_among(numbers: &[usize], number: usize) -> bool
 }
 
 /// The number of the column of a name, where it isn't one of those that were named before.
-pub(crate) fn place_of(columns: &[Column], earlier: &[usize], name: &Text) -> Option<usize>
+pub fn place_of(columns: &[Column], earlier: &[usize], name: &Text) -> Option<usize>
     ensures { result ≡ spec.place_of columns.now earlier.now name.now }
 {
     match number_of(columns, name) {

@@ -23,7 +23,7 @@ pub struct Sources<'a> {
 }
 
 /// The name that a table goes by: the one behind AS, and else its own.
-fn known_as(name: &TableName) -> &Text
+pub fn known_as(name: &TableName) -> &Text
     ensures { result.now ≡ spec.known_as name.now }
 {
     match &name.alias {
@@ -47,7 +47,8 @@ fn find_source<'a>(catalog: &'a Catalog, name: &'a TableName) -> Option<Source<'
     }
 }
 
-fn second_name(second: &SecondTable) -> &TableName
+/// The second table of a FROM.
+pub fn second_name(second: &SecondTable) -> &TableName
     ensures { result.now ≡ spec.second_name second.now }
 {
     match second {
@@ -57,7 +58,7 @@ fn second_name(second: &SecondTable) -> &TableName
 }
 
 /// ON, where it is written.
-pub(crate) fn on_of(second: &Option<SecondTable>) -> Option<&Expr>
+pub fn on_of(second: &Option<SecondTable>) -> Option<&Expr>
     ensures { option_map (λ e. e.now) result ≡ spec.on_of second.now }
 {
     match second {
@@ -77,7 +78,7 @@ fn with_right<'a>(left: Source<'a>, right: Option<Source<'a>>) -> Option<Sources
 }
 
 /// The tables of a FROM, where each is there and they go by different names.
-pub(crate) fn find_sources<'a>(catalog: &'a Catalog, select: &'a Select) -> Option<Sources<'a>>
+pub fn find_sources<'a>(catalog: &'a Catalog, select: &'a Select) -> Option<Sources<'a>>
     ensures { spec.seen_from result ≡ spec.from_tables catalog.now select.now.first select.now.second }
 {
     let left = match find_source(catalog, &select.first) {
@@ -92,7 +93,7 @@ pub(crate) fn find_sources<'a>(catalog: &'a Catalog, select: &'a Select) -> Opti
 
 impl<'a> Sources<'a> {
     /// The columns that may stand in the expressions.
-    pub(crate) fn names(&self) -> Names<'a>
+    pub fn names(&self) -> Names<'a>
         ensures { result ≡ spec.tables_from (spec.seen_sources self.now) }
     {
         let right = match self.right {

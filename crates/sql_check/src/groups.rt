@@ -89,7 +89,7 @@ fn place_in(numbers: &[usize], wanted: usize) -> Option<usize>
 }
 
 /// The place of a column in GROUP BY.
-fn group_place(by: &[usize], column: Option<FoundColumn>) -> Option<usize>
+pub fn group_place(by: &[usize], column: Option<FoundColumn>) -> Option<usize>
     ensures { result ≡ spec.group_place by.now column }
 {
     match column {

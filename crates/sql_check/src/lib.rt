@@ -13,8 +13,14 @@ mod preparing;
 mod select;
 mod writes;
 
+pub use columns::place_of;
 pub use examined::Examined;
+pub use from::{Source, Sources, find_sources, known_as, on_of, second_name};
+pub use groups::group_place;
+pub use order::order_by;
+pub use outputs::{column_written, have_aggregate};
 pub use preparing::{examine, prepare};
+pub use select::heads_given;
 
 #[cfg(test)]
 mod tests;

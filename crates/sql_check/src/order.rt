@@ -39,7 +39,7 @@ fn column_by(column: Option<FoundColumn>) -> Option<OrderBy>
 }
 
 /// What a name in ORDER BY stands for.
-fn order_by(
+pub fn order_by(
     names: &Names<'_>,
     heads: &[(Text, Class)],
     grouped: bool,

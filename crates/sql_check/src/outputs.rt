@@ -13,7 +13,7 @@ use volt_catalog::Column;
 use volt_value::{Class, Text};
 
 /// The column that an expression is, in parentheses or not.
-pub(crate) fn column_written(e: &Expr) -> Option<&ColumnName>
+pub fn column_written(e: &Expr) -> Option<&ColumnName>
     ensures { option_map (λ name. name.now) result ≡ spec.column_written e.now }
 {
     match e {
@@ -150,7 +150,7 @@ fn is_aggregate(value: &OutputValue) -> bool
 }
 
 /// Whether an output is an aggregate.
-pub(crate) fn have_aggregate(outputs: &[Output]) -> bool
+pub fn have_aggregate(outputs: &[Output]) -> bool
     ensures { result ≡ list_any (λ output. spec.is_aggregate output.value) outputs.now }
 {
     outputs.iter().any(|output| is_aggregate(&output.value))

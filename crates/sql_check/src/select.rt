@@ -123,7 +123,7 @@ fn shape_of(
 }
 
 /// The names and the classes of the outputs.
-fn heads_given(
+pub fn heads_given(
     alloc: Global,
     names: &Names<'_>,
     outputs: &Outputs,

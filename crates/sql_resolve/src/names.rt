@@ -183,7 +183,7 @@ impl<'a> Names<'a> {
     }
 
     /// `:row.column`.
-    pub(crate) fn row_column(&self, row: &Text, column: &Text) -> Given
+    pub fn row_column(&self, row: &Text, column: &Text) -> Given
         ensures { result ≡ names.row_column_in self.now.program row.now column.now }
     {
         match self.program {
@@ -193,7 +193,7 @@ impl<'a> Names<'a> {
     }
 
     /// `ROWS(name)`.
-    pub(crate) fn rows(&self, name: &Text) -> Given
+    pub fn rows(&self, name: &Text) -> Given
         ensures { result ≡ names.rows_in self.now.program name.now }
     {
         match self.program {
@@ -203,7 +203,7 @@ impl<'a> Names<'a> {
     }
 
     /// `FIRST(name.column)`.
-    pub(crate) fn first(&self, name: &Text, column: &Text) -> Given
+    pub fn first(&self, name: &Text, column: &Text) -> Given
         ensures { result ≡ names.first_in self.now.program name.now column.now }
     {
         match self.program {

@@ -97,7 +97,7 @@ impl Sort {
 }
 
 /// The class of two values that are compared.
-pub(crate) fn common_of_two(names: &Names<'_>, a: &Expr, b: &Expr) -> Class
+pub fn common_of_two(names: &Names<'_>, a: &Expr, b: &Expr) -> Class
     ensures { result ≡ spec.common (spec.sort_of names.now a.now ∷ spec.sort_of names.now b.now ∷ []) }
 {
     match sort_of(names, a) {
@@ -107,7 +107,7 @@ pub(crate) fn common_of_two(names: &Names<'_>, a: &Expr, b: &Expr) -> Class
 }
 
 /// The class of three values that are compared.
-pub(crate) fn common_of_three(names: &Names<'_>, a: &Expr, b: &Expr, c: &Expr) -> Class
+pub fn common_of_three(names: &Names<'_>, a: &Expr, b: &Expr, c: &Expr) -> Class
     ensures { result ≡ spec.common (spec.sort_of names.now a.now ∷ spec.sort_of names.now b.now ∷ spec.sort_of names.now c.now ∷ []) }
 {
     match sort_of(names, a) {
@@ -117,7 +117,7 @@ pub(crate) fn common_of_three(names: &Names<'_>, a: &Expr, b: &Expr, c: &Expr) -
 }
 
 /// The class of a value and of those with which it is compared.
-pub(crate) fn common_among(names: &Names<'_>, value: &Expr, items: &[Expr]) -> Class
+pub fn common_among(names: &Names<'_>, value: &Expr, items: &[Expr]) -> Class
     ensures { result ≡ spec.common (spec.sort_of names.now value.now ∷ map (λ item. item.sort) (map (spec.meaning_of names.now) items.now)) }
 {
     if let Sort::Value(class) = sort_of(names, value) {

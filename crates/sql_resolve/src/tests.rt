@@ -1,6 +1,6 @@
 //! What names and expressions stand for, each public call on its happy path.
 
-ghost use Rattle.std.specs.Prelude.{◌<◌, ◌^◌, ◌≡◌, IfOk, None, length};
+ghost use Rattle.std.specs.Prelude.{◌≡◌, IfOk, None};
 
 use crate::*;
 use sql_parse::{Arithmetic, ColumnName, Delete, Expr, Stmt, parse_statement};
@@ -52,9 +52,10 @@ fn second(alloc: Global) -> Result<Table, AllocError>
 }
 
 /// The tree of a statement.
-fn parsed(alloc: Global, text: &str) -> Result<Stmt, Fail>
-    requires { length text.now < 2 ^ 32 }
-{
+fn parsed(alloc: Global, text: &str) -> Result<Stmt, Fail> {
+    if text.len() > 100_000 {
+        return Err(Fail::from("too long"));
+    }
     let tokens = lex(alloc, text)?;
     let (statement, _) = parse_statement(alloc, text, tokens.as_slice(), 0)?;
     Ok(statement)
@@ -76,12 +77,10 @@ fn filter_in(statement: Stmt) -> Option<Expr> {
 }
 
 /// The condition of a DELETE.
-fn filter(alloc: Global, text: &str) -> Result<Expr, Fail>
-    requires { length text.now < 2 ^ 32 }
-{
+fn filter(alloc: Global, text: &str) -> Result<Expr, Fail> {
     match filter_in(parsed(alloc, text)?) {
         Some(e) => Ok(e),
-        None => Err(Fail::from(CheckFault::NoMemory)),
+        None => Err(Fail::from("no condition")),
     }
 }
 
@@ -117,56 +116,96 @@ fn place(
     Ok(names.column(&name))
 }
 
+const V: FoundColumn = FoundColumn {
+    number: 3,
+    class: Class::Int,
+};
+
+const T: FoundColumn = FoundColumn {
+    number: 1,
+    class: Class::Text,
+};
+
+/// Names of columns of both tables, and what they stand for.
+const PLACES: [(Option<&str>, &str, Option<FoundColumn>); 6] = [
+    (None, "V", Some(V)),
+    (Some("X"), "v", Some(V)),
+    (Some("a"), "T", Some(T)),
+    (None, "id", None),
+    (Some("a"), "v", None),
+    (Some("b"), "v", None),
+];
+
 #[test]
 fn columns_are_found(rt: HostRuntime) -> Result<(), Fail> {
-    let alloc = rt.alloc();
-    let v = FoundColumn {
-        number: 3,
-        class: Class::Int,
-    };
-    let t = FoundColumn {
-        number: 1,
-        class: Class::Text,
-    };
-    assert!(rt; place(alloc, None, "V")? == Some(v));
-    assert!(rt; place(alloc, Some("X"), "v")? == Some(v));
-    assert!(rt; place(alloc, Some("a"), "T")? == Some(t));
-    assert!(rt; place(alloc, None, "id")?.is_none());
-    assert!(rt; place(alloc, Some("a"), "v")?.is_none());
-    assert!(rt; place(alloc, Some("b"), "v")?.is_none());
-    let name = named(alloc, None, "id")?;
-    assert!(rt; Names::none().column(&name).is_none());
-    let a = first(alloc)?;
-    let columns = a.columns.as_slice();
-    assert_eq!(rt; number_of(columns, &Text::of(alloc, "T")?), Some(1));
-    assert_eq!(rt; number_of(columns, &Text::of(alloc, "v")?), None);
-    assert!(rt; class_at(columns, 1) == Class::Text);
-    assert!(rt; is_same(&Text::of(alloc, "Ab")?, &Text::of(alloc, "aB")?));
+    for (table, column, wanted) in PLACES {
+        assert!(rt; place(rt.alloc(), table, column)? == wanted, "{column}");
+    }
     Ok(())
+}
+
+#[test]
+fn columns_of_no_table_are_not_found(rt: HostRuntime) -> Result<(), Fail> {
+    let name = named(rt.alloc(), None, "id")?;
+    assert!(rt; Names::none().column(&name).is_none());
+    Ok(())
+}
+
+#[test]
+fn columns_have_numbers_and_classes(rt: HostRuntime) -> Result<(), Fail> {
+    let alloc = rt.alloc();
+    let a = first(alloc)?;
+    for (name, wanted) in [("T", Some(1)), ("v", None)] {
+        let name = Text::of(alloc, name)?;
+        assert_eq!(rt; number_of(a.columns.as_slice(), &name), wanted);
+    }
+    assert!(rt; class_at(a.columns.as_slice(), 1) == Class::Text);
+    Ok(())
+}
+
+#[test]
+fn names_go_by_no_case(rt: HostRuntime) -> Result<(), Fail> {
+    let (one, other) = (Text::of(rt.alloc(), "Ab")?, Text::of(rt.alloc(), "aB")?);
+    assert!(rt; is_same(&one, &other));
+    Ok(())
+}
+
+fn add(catalog: &mut Catalog, table: Table) -> Result<(), Fail>
+    requires { table.part ≡ None }
+{
+    match catalog.add_table(table) {
+        Ok(_) => Ok(()),
+        Err(_) => Err(Fail::from("no catalog")),
+    }
+}
+
+/// A catalog of both tables.
+fn both(alloc: Global) -> Result<Catalog, Fail> {
+    let mut catalog = Catalog::new(alloc);
+    add(&mut catalog, first(alloc)?)?;
+    add(&mut catalog, second(alloc)?)?;
+    Ok(catalog)
+}
+
+/// The number of a table in a catalog of both, and whether its name there is this.
+fn number_in(alloc: Global, name: &str, own: &str) -> Result<Option<(u16, bool)>, Fail> {
+    let name = Text::of(alloc, name)?;
+    let catalog = both(alloc)?;
+    match table_named(&catalog, &name) {
+        Some((number, table)) => Ok(Some((number, table.name.as_str() == own))),
+        None => Ok(None),
+    }
 }
 
 #[test]
 fn tables_are_found(rt: HostRuntime) -> Result<(), Fail> {
-    let alloc = rt.alloc();
-    let mut catalog = Catalog::new(alloc);
-    if catalog.add_table(first(alloc)?).is_err() || catalog.add_table(second(alloc)?).is_err() {
-        return Err(Fail::from(CheckFault::NoMemory));
-    }
-    match table_named(&catalog, &Text::of(alloc, "B")?) {
-        Some((number, table)) => {
-            assert_eq!(rt; number, 1);
-            assert_eq!(rt; table.name.as_str(), "b");
-        }
-        None => assert!(rt; false),
-    }
-    assert!(rt; table_named(&catalog, &Text::of(alloc, "c")?).is_none());
+    assert!(rt; number_in(rt.alloc(), "B", "b")? == Some((1, true)));
+    assert!(rt; number_in(rt.alloc(), "c", "c")?.is_none());
     Ok(())
 }
 
 /// The condition of a DELETE from `a` as a truth value, with what was found out about it.
-fn checked(alloc: Global, text: &str) -> Result<(Cond, Notes), Fail>
-    requires { length text.now < 2 ^ 32 }
-{
+fn checked(alloc: Global, text: &str) -> Result<(Cond, Notes), Fail> {
     let e = filter(alloc, text)?;
     let a = first(alloc)?;
     let left = NamedTable {
@@ -180,9 +219,7 @@ fn checked(alloc: Global, text: &str) -> Result<(Cond, Notes), Fail>
 }
 
 /// The number of the fault of such a condition, or 0.
-fn fault(alloc: Global, text: &str) -> Result<u8, Fail>
-    requires { length text.now < 2 ^ 32 }
-{
+fn fault(alloc: Global, text: &str) -> Result<u8, Fail> {
     let (_, notes) = checked(alloc, text)?;
     match notes.fault {
         Some(fault) => Ok(fault.code()),
@@ -190,73 +227,106 @@ fn fault(alloc: Global, text: &str) -> Result<u8, Fail>
     }
 }
 
+/// DELETEs from `a` with the numbers of their faults, 0 for none.
+const FAULTS: [(&str, u8); 6] = [
+    ("DELETE FROM a WHERE t = 1", 14),
+    ("DELETE FROM a WHERE v = 1", 9),
+    ("DELETE FROM a WHERE id = :v", 19),
+    ("DELETE FROM a WHERE id = :v AND id = 'x'", 14),
+    ("DELETE FROM a WHERE id", 14),
+    ("DELETE FROM a WHERE NULL OR NOT NULL", 0),
+];
+
 #[test]
-fn conditions_are_resolved(rt: HostRuntime) -> Result<(), Fail> {
-    let alloc = rt.alloc();
-    let (made, notes) = checked(alloc, "DELETE FROM a WHERE ? = T AND (id) BETWEEN ? AND 2")?;
-    assert!(rt; notes.fault.is_none());
-    assert!(rt; notes.params.as_slice() == [Class::Text, Class::Int].as_slice());
-    let Cond::And(parts) = made else {
-        return Err(Fail::from(CheckFault::NoMemory));
-    };
-    match parts.as_slice() {
-        [
-            Cond::Compare(_, Scalar::Param(param), Scalar::Column(column)),
-            Cond::Between { .. },
-        ] => {
-            assert_eq!(rt; *param, 0);
-            assert_eq!(rt; *column, 1);
-        }
-        _ => assert!(rt; false),
+fn conditions_have_faults(rt: HostRuntime) -> Result<(), Fail> {
+    for (text, wanted) in FAULTS {
+        assert_eq!(rt; fault(rt.alloc(), text)?, wanted, "{text}");
     }
-    assert_eq!(rt; fault(alloc, "DELETE FROM a WHERE t = 1")?, 14);
-    assert_eq!(rt; fault(alloc, "DELETE FROM a WHERE v = 1")?, 9);
-    assert_eq!(rt; fault(alloc, "DELETE FROM a WHERE id = :v")?, 19);
-    assert_eq!(rt;
-        fault(alloc, "DELETE FROM a WHERE id = :v AND id = 'x'")?,
-        14
-    );
-    assert_eq!(rt; fault(alloc, "DELETE FROM a WHERE id")?, 14);
-    assert_eq!(rt; fault(alloc, "DELETE FROM a WHERE NULL OR NOT NULL")?, 0);
     Ok(())
 }
 
 #[test]
-fn values_are_resolved(rt: HostRuntime) -> Result<(), Fail> {
+fn conditions_are_resolved(rt: HostRuntime) -> Result<(), Fail> {
     let alloc = rt.alloc();
-    let names = Names::none();
-    let e = filter(alloc, "DELETE FROM a WHERE 1 + ? * 2 - 3")?;
-    assert!(rt; sort_of(&names, &e) == Sort::Value(Class::Int));
+    let (made, notes) = checked(alloc, "DELETE FROM a WHERE ? = T AND (id) BETWEEN ? AND 2")?;
+    let shown = format!(in alloc; "{made:?} {:?} {:?}", notes.params.as_slice(), notes.fault)?;
+    assert_eq!(rt;
+        shown.as_str(),
+        "And(Items { items: [Compare(Equal, Param(0), Column(1)), Between { value: Column(0), low: \
+         Param(1), high: Literal(Int(2)) }] }) [Text, Int] None"
+    );
+    Ok(())
+}
+
+/// A value on its own over no table, the classes of its parameters and its fault.
+fn value(alloc: Global, e: &Expr) -> Result<String, Fail> {
     let mut notes = Notes::new(alloc);
-    match alone(alloc, &names, &mut notes, &e)? {
-        Scalar::Chain { rest, .. } => assert_eq!(rt; rest.len(), 2),
-        _ => assert!(rt; false),
-    }
-    assert!(rt; notes.fault.is_none());
-    assert_eq!(rt; notes.params.len(), 1);
-    let _text = scalar(alloc, &names, &mut notes, &e, Class::Text)?;
+    let made = alone(alloc, &Names::none(), &mut notes, e)?;
+    Ok(format!(in alloc; "{made:?} {:?} {:?}", notes.params.as_slice(), notes.fault)?)
+}
+
+#[test]
+fn values_are_resolved(rt: HostRuntime) -> Result<(), Fail> {
+    let e = filter(rt.alloc(), "DELETE FROM a WHERE 1 + ? * 2 - 3")?;
+    let wanted = "Chain { first: Boxed { inner: Literal(Int(1)) }, rest: Items { items: [(Add, \
+                  Chain { first: Boxed { inner: Param(0) }, rest: Items { items: [(Multiply, \
+                  Literal(Int(2)))] } }), (Subtract, Literal(Int(3)))] } } [Int] None";
+    assert_eq!(rt; value(rt.alloc(), &e)?.as_str(), wanted);
+    Ok(())
+}
+
+#[test]
+fn values_are_of_the_class_that_is_wanted(rt: HostRuntime) -> Result<(), Fail> {
+    let alloc = rt.alloc();
+    let e = filter(alloc, "DELETE FROM a WHERE 1 + 2")?;
+    let mut notes = Notes::new(alloc);
+    let _text = scalar(alloc, &Names::none(), &mut notes, &e, Class::Text)?;
     assert!(rt; notes.fault == Some(CheckFault::TypeMismatch));
-    let lone = filter(alloc, "DELETE FROM a WHERE ?")?;
-    assert!(rt; sort_of(&names, &lone) == Sort::Open);
+    Ok(())
+}
+
+/// Conditions with what they give.
+const SORTS: [(&str, Sort); 2] = [
+    ("DELETE FROM a WHERE 1 + ? * 2 - 3", Sort::Value(Class::Int)),
+    ("DELETE FROM a WHERE ?", Sort::Open),
+];
+
+#[test]
+fn expressions_have_sorts(rt: HostRuntime) -> Result<(), Fail> {
+    for (text, wanted) in SORTS {
+        let e = filter(rt.alloc(), text)?;
+        assert!(rt; sort_of(&Names::none(), &e) == wanted, "{text}");
+    }
     assert!(rt; !Sort::Open.stands_alone() && Sort::Null.own_class() == Class::Int);
     Ok(())
 }
 
 #[test]
-fn least_fault_is_noted(rt: HostRuntime) -> Result<(), Fail> {
-    let alloc = rt.alloc();
-    let mut notes = Notes::new(alloc);
+fn what_fits_is_no_fault(rt: HostRuntime) -> Result<(), Fail> {
+    let mut notes = Notes::new(rt.alloc());
     notes.limit(2, 2);
     notes.fit(Class::Text, Class::Text);
     notes.note_alone(Sort::Null);
     assert!(rt; notes.fault.is_none());
+    Ok(())
+}
+
+#[test]
+fn least_fault_is_noted(rt: HostRuntime) -> Result<(), Fail> {
+    let mut notes = Notes::new(rt.alloc());
     notes.blame(CheckFault::ChangesKey);
     notes.limit(2, 3);
     notes.note_alone(Sort::Truth);
     assert!(rt; notes.fault == Some(CheckFault::TooMany));
+    assert_eq!(rt; CheckFault::NotDistributable.code(), 15);
+    Ok(())
+}
+
+#[test]
+fn parameters_are_numbered(rt: HostRuntime) -> Result<(), Fail> {
+    let mut notes = Notes::new(rt.alloc());
     assert_eq!(rt; notes.param(Class::Int)?, 0);
     assert_eq!(rt; notes.param(Class::Text)?, 1);
-    assert_eq!(rt; CheckFault::NotDistributable.code(), 15);
     Ok(())
 }
 
@@ -281,16 +351,30 @@ fn program(alloc: Global) -> Result<Bound, AllocError> {
     })
 }
 
+/// Names with the variable and the result of that program that they stand for.
+const BOUND: [(&str, Option<usize>, Option<usize>); 3] = [
+    ("S", Some(1), None),
+    ("R", None, Some(0)),
+    ("n", Some(0), None),
+];
+
 #[test]
 fn names_of_a_program_are_found(rt: HostRuntime) -> Result<(), Fail> {
-    let alloc = rt.alloc();
-    let program = program(alloc)?;
-    assert_eq!(rt; program.variable_named(&Text::of(alloc, "S")?), Some(1));
-    assert_eq!(rt; program.result_named(&Text::of(alloc, "R")?), Some(0));
-    assert_eq!(rt; program.result_named(&Text::of(alloc, "n")?), None);
+    let program = program(rt.alloc())?;
+    for (name, variable, made) in BOUND {
+        let name = Text::of(rt.alloc(), name)?;
+        assert_eq!(rt; program.variable_named(&name), variable);
+        assert_eq!(rt; program.result_named(&name), made);
+    }
+    Ok(())
+}
+
+#[test]
+fn columns_of_a_result_are_found(rt: HostRuntime) -> Result<(), Fail> {
+    let program = program(rt.alloc())?;
     let heads = program.variables.as_slice();
-    assert_eq!(rt; head_place(heads, &Text::of(alloc, "s")?), Some(1));
-    assert!(rt; head_named(heads, &Text::of(alloc, "N")?) == Some((0, Class::Int)));
+    assert_eq!(rt; head_place(heads, &Text::of(rt.alloc(), "s")?), Some(1));
+    assert!(rt; head_named(heads, &Text::of(rt.alloc(), "N")?) == Some((0, Class::Int)));
     Ok(())
 }
 
@@ -309,48 +393,83 @@ fn values_of_a_program_are_taken(rt: HostRuntime) -> Result<(), Fail> {
     let text = "DELETE FROM a WHERE :n + FIRST(r.c) > ROWS(r) AND :x.d = :s";
     let e = filter(alloc, text)?;
     let notes = notes_of(alloc, &e)?;
+    let shown = format!(in alloc; "{:?} {:?}", notes.params.as_slice(), notes.args.as_slice())?;
+    assert_eq!(rt;
+        shown.as_str(),
+        "[Int, Int, Int, Text, Text] [Variable(0), First { result: 0, column: 0 }, Rows(0), \
+         Column { row: 1, column: 1 }, Variable(1)]"
+    );
     assert!(rt; notes.fault.is_none());
-    let classes = [Class::Int, Class::Int, Class::Int, Class::Text, Class::Text];
-    assert!(rt; notes.params.as_slice() == classes.as_slice());
-    let args = [
-        ProgramValue::Variable(0),
-        ProgramValue::First {
-            result: 0,
-            column: 0,
-        },
-        ProgramValue::Rows(0),
-        ProgramValue::Column { row: 1, column: 1 },
-        ProgramValue::Variable(1),
-    ];
-    assert!(rt; notes.args.as_slice() == args.as_slice());
+    Ok(())
+}
+
+/// What a value of a program becomes where one of a class is wanted, and the fault for it.
+fn taken_as(
+    alloc: Global,
+    value: Given,
+    class: Class,
+) -> Result<(Option<usize>, Option<CheckFault>), AllocError> {
+    let mut notes = Notes::new(alloc);
+    let number = taken(&mut notes, value, class)?;
+    Ok((number, notes.fault))
+}
+
+#[test]
+fn values_that_are_not_bound_are_faults(rt: HostRuntime) -> Result<(), Fail> {
+    let (number, fault) = taken_as(rt.alloc(), Given::Unbound, Class::Text)?;
+    assert!(rt; number.is_none() && fault == Some(CheckFault::UnboundName));
+    let (number, fault) = taken_as(rt.alloc(), Given::NoColumn, Class::Int)?;
+    assert!(rt; number.is_none() && fault == Some(CheckFault::NoSuchName));
+    Ok(())
+}
+
+#[test]
+fn values_of_another_class_are_faults(rt: HostRuntime) -> Result<(), Fail> {
+    let program = program(rt.alloc())?;
+    let value = program.variable(&Text::of(rt.alloc(), "s")?);
+    let (number, fault) = taken_as(rt.alloc(), value, Class::Text)?;
+    assert!(rt; number == Some(0) && fault.is_none());
+    let (number, fault) = taken_as(rt.alloc(), value, Class::Int)?;
+    assert!(rt; number == Some(0) && fault == Some(CheckFault::TypeMismatch));
+    Ok(())
+}
+
+/// Values are numbered, and of two faults the less one stays.
+#[test]
+fn values_of_a_program_are_numbered(rt: HostRuntime) -> Result<(), Fail> {
+    let mut notes = Notes::new(rt.alloc());
+    let value = Given::Value(ProgramValue::Variable(1), Class::Text);
+    assert_eq!(rt; taken(&mut notes, value, Class::Text)?, Some(0));
+    assert_eq!(rt; taken(&mut notes, value, Class::Int)?, Some(1));
+    assert!(rt; taken(&mut notes, Given::Unbound, Class::Int)?.is_none());
+    assert!(rt; notes.fault == Some(CheckFault::TypeMismatch));
+    Ok(())
+}
+
+#[test]
+fn names_know_their_program(rt: HostRuntime) -> Result<(), Fail> {
+    let program = program(rt.alloc())?;
+    let names = Names::none().in_program(Some(&program));
+    assert!(rt; names.has_program() && !Names::none().has_program());
+    assert!(rt; names.variable(&Text::of(rt.alloc(), "r")?) == Given::Unbound);
+    Ok(())
+}
+
+#[test]
+fn questions_stand_outside_of_programs(rt: HostRuntime) -> Result<(), Fail> {
+    let program = program(rt.alloc())?;
+    let names = Names::none().in_program(Some(&program));
+    let mut notes = Notes::new(rt.alloc());
+    assert!(rt; question(&names, &mut notes, Class::Int)?.is_none());
+    assert!(rt; notes.fault == Some(CheckFault::UnboundName));
+    assert_eq!(rt; question(&Names::none(), &mut notes, Class::Int)?, Some(0));
     Ok(())
 }
 
 #[test]
 fn names_of_a_program_are_refused(rt: HostRuntime) -> Result<(), Fail> {
-    let alloc = rt.alloc();
-    let program = program(alloc)?;
-    let names = Names::none().in_program(Some(&program));
-    assert!(rt; names.has_program() && !Names::none().has_program());
-    let mut notes = Notes::new(alloc);
-    let none = names.variable(&Text::of(alloc, "r")?);
-    assert!(rt; none == Given::Unbound);
-    assert!(rt; taken(&mut notes, none, Class::Text)?.is_none());
-    assert!(rt; notes.fault == Some(CheckFault::UnboundName));
-    let value = names.variable(&Text::of(alloc, "s")?);
-    assert_eq!(rt; taken(&mut notes, value, Class::Text)?, Some(0));
-    assert!(rt; notes.fault == Some(CheckFault::UnboundName));
-    assert_eq!(rt; taken(&mut notes, value, Class::Int)?, Some(1));
-    assert!(rt; notes.fault == Some(CheckFault::TypeMismatch));
-    assert!(rt; taken(&mut notes, Given::NoColumn, Class::Int)?.is_none());
-    assert!(rt; notes.fault == Some(CheckFault::NoSuchName));
-    let mut notes = Notes::new(alloc);
-    assert!(rt; question(&names, &mut notes, Class::Int)?.is_none());
-    assert!(rt; notes.fault == Some(CheckFault::UnboundName));
-    assert_eq!(rt; question(&Names::none(), &mut notes, Class::Int)?, Some(0));
-    let e = filter(alloc, "DELETE FROM a WHERE :u = 'x' AND :x.e = 1")?;
-    let mut notes = Notes::new(alloc);
-    let _made = condition(alloc, &names, &mut notes, &e)?;
+    let e = filter(rt.alloc(), "DELETE FROM a WHERE :u = 'x' AND :x.e = 1")?;
+    let notes = notes_of(rt.alloc(), &e)?;
     assert!(rt; notes.fault == Some(CheckFault::NoSuchName));
     Ok(())
 }
@@ -375,21 +494,29 @@ fn all_of(alloc: Global, times: u16) -> Result<Expr, AllocError> {
     Ok(e)
 }
 
-/// The longest chains that 4,096 tokens allow. Resolving them takes no more stack than short ones: the
-/// trees are let go without a drop, which goes down them level by level.
+/// The longest chain of a sum that 4,096 tokens allow. Resolving it takes no more stack than a short
+/// one: the tree is let go without a drop, which goes down it level by level.
 #[test]
-fn longest_chains_are_resolved(rt: HostRuntime) -> Result<(), Fail> {
+fn longest_sum_is_resolved(rt: HostRuntime) -> Result<(), Fail> {
     let alloc = rt.alloc();
-    let names = Names::none();
     let mut notes = Notes::new(alloc);
     let sum = sum_of(alloc, 2047)?;
-    match alone(alloc, &names, &mut notes, &sum)? {
+    match alone(alloc, &Names::none(), &mut notes, &sum)? {
         Scalar::Chain { rest, .. } => assert_eq!(rt; rest.len(), 2047),
         _ => assert!(rt; false),
     }
     forget(sum);
+    assert!(rt; notes.fault.is_none());
+    Ok(())
+}
+
+/// The same of a condition.
+#[test]
+fn longest_conjunction_is_resolved(rt: HostRuntime) -> Result<(), Fail> {
+    let alloc = rt.alloc();
+    let mut notes = Notes::new(alloc);
     let all = all_of(alloc, 2047)?;
-    match condition(alloc, &names, &mut notes, &all)? {
+    match condition(alloc, &Names::none(), &mut notes, &all)? {
         Cond::And(parts) => assert_eq!(rt; parts.len(), 2048),
         _ => assert!(rt; false),
     }
