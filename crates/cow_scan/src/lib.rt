@@ -9,5 +9,3 @@ mod state;
 pub use blocks::CowBlocks;
 pub use scan::CowScan;
 
-#[cfg(test)]
-mod tests;

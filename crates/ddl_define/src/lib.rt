@@ -11,5 +11,3 @@ mod tables;
 pub use columns::col_type;
 pub use definitions::{DefinedProcedure, Definitions, code};
 
-#[cfg(test)]
-mod tests;

@@ -8,8 +8,6 @@ mod procedure;
 mod program;
 mod read_ddl;
 mod tables;
-#[cfg(test)]
-mod tests;
 mod types;
 
 pub use ddl::{ColumnText, CreateIndex, CreateTable, Ddl, PartitionTable, TableItem, TypeName};

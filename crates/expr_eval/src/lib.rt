@@ -9,8 +9,6 @@ mod comparing;
 mod conditions;
 mod scalars;
 mod seen;
-#[cfg(test)]
-mod tests;
 mod truth;
 mod valued;
 

@@ -12,8 +12,6 @@ mod nested;
 mod operators;
 mod quoted;
 mod rules;
-#[cfg(test)]
-mod tests;
 
 pub use atoms::column;
 pub use cursor::Tokens;

@@ -11,5 +11,3 @@ pub use pane::{MAX_BLOCKS, Pane};
 pub use place::Place;
 pub use places::Places;
 
-#[cfg(test)]
-mod tests;

@@ -17,5 +17,3 @@ pub use compiling::compile;
 pub use fault::ProcFault;
 pub use laws::statements_keep_to_their_partition;
 
-#[cfg(test)]
-mod tests;

@@ -12,8 +12,6 @@ mod shared;
 mod single;
 mod stand;
 mod step;
-#[cfg(test)]
-mod tests;
 mod turn;
 mod went;
 

@@ -14,5 +14,3 @@ pub use fault::RowFault;
 pub use field::Field;
 pub use layout::RowLayout;
 
-#[cfg(test)]
-mod tests;

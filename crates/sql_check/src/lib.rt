@@ -22,5 +22,3 @@ pub use outputs::{column_written, have_aggregate};
 pub use preparing::{examine, prepare};
 pub use select::heads_given;
 
-#[cfg(test)]
-mod tests;

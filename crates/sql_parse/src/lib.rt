@@ -5,8 +5,6 @@ mod parse;
 mod parts;
 mod select;
 mod statement;
-#[cfg(test)]
-mod tests;
 mod writes;
 
 pub use expr_parse::{Arithmetic, ColumnName, Comparison, Expr, ParseFault};

@@ -12,8 +12,6 @@ mod reply;
 mod row;
 mod row_key;
 mod select;
-#[cfg(test)]
-mod tests;
 
 pub use expression::{Cond, Scalar};
 pub use fault::{Fault, RunFault};

@@ -4,8 +4,6 @@
 
 mod refusal;
 mod select;
-#[cfg(test)]
-mod tests;
 mod writes;
 
 pub use refusal::about_refusal;

@@ -21,5 +21,3 @@ pub use resolved::Resolved;
 pub use sort::{Sort, common_among, common_of_three, common_of_two, sort_of};
 pub use tables::{class_at, number_of, table_named};
 
-#[cfg(test)]
-mod tests;

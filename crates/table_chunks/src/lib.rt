@@ -10,5 +10,3 @@ pub use loading::load;
 pub use reading::read_chunk;
 pub use writing::{chunk_of, rows_in, write_chunk};
 
-#[cfg(test)]
-mod tests;

@@ -11,5 +11,3 @@ mod slots;
 pub use row::{Row, Rows};
 pub use rows::TableRows;
 
-#[cfg(test)]
-mod tests;

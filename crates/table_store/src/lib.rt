@@ -7,5 +7,3 @@ mod tables;
 
 pub use tables::Tables;
 
-#[cfg(test)]
-mod tests;

@@ -11,5 +11,3 @@ mod steps;
 pub use block::{Block, MAX_WIDTH, PLACES};
 pub use steps::Steps;
 
-#[cfg(test)]
-mod tests;

@@ -8,5 +8,3 @@ mod undo;
 pub use mark::Mark;
 pub use undo::Undo;
 
-#[cfg(test)]
-mod tests;

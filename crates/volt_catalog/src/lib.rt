@@ -16,5 +16,3 @@ pub use fault::CatalogFault;
 pub use procedure::{ParamTypes, ProcDef};
 pub use table::{IndexDef, Table};
 
-#[cfg(test)]
-mod tests;

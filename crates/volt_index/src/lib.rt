@@ -15,5 +15,3 @@ pub use key::{Key, end_of, key_of};
 pub use laws::keys_are_in_order;
 pub use range::IndexRange;
 
-#[cfg(test)]
-mod tests;

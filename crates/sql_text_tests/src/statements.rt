@@ -1,6 +1,6 @@
 //! Statements that are read or refused, with the place that follows from the grammar's text.
 
-use crate::*;
+use sql_parse::*;
 use std::alloc::Global;
 use std::test::Fail;
 use volt_text::lex;

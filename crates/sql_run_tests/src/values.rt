@@ -1,6 +1,6 @@
 //! What operators give, by hand. A case takes its operands as the values of a row.
 
-use crate::*;
+use expr_eval::*;
 use expr_parse::{Arithmetic, Comparison};
 use sql_plan::{Cond, Fault, RunFault, Scalar};
 use sqlite_items::{Boxed, Items};

@@ -1,6 +1,6 @@
 //! Programs by hand, run to their end: the statements that they ask for and what they come to, as one text.
 
-use crate::*;
+use proc_run::*;
 use expr_parse::{Arithmetic, Comparison};
 use sql_plan::{Cond, Fault, Program, ProgramStep, ProgramValue, Returned, Row, Rows, Scalar};
 use sqlite_items::{Boxed, Items};

@@ -3,7 +3,7 @@
 ghost use Rattle.std.specs.Prelude.{◌<◌, ◌≤◌, ◌^◌, length, IfOk};
 ghost use Rattle.volt_text.specs.Tokens.{Reads as Lexes, Tokens as Lexed};
 
-use crate::*;
+use ddl_define::*;
 use ddl_parse::{Ddl, TypeName, parse_ddl};
 use std::alloc::Global;
 use std::test::Fail;

@@ -2,7 +2,7 @@
 
 ghost use Rattle.std.specs.Prelude.{◌≡◌, IfOk, None};
 
-use crate::*;
+use sql_resolve::*;
 use sql_parse::{Arithmetic, ColumnName, Delete, Expr, Stmt, parse_statement};
 use sql_plan::{Cond, ProgramValue, Scalar};
 use sqlite_items::{Boxed, Items};
@@ -425,8 +425,7 @@ fn values_that_are_not_bound_are_faults(rt: HostRuntime) -> Result<(), Fail> {
 
 #[test]
 fn values_of_another_class_are_faults(rt: HostRuntime) -> Result<(), Fail> {
-    let program = program(rt.alloc())?;
-    let value = program.variable(&Text::of(rt.alloc(), "s")?);
+    let value = Given::Value(ProgramValue::Variable(1), Class::Text);
     let (number, fault) = taken_as(rt.alloc(), value, Class::Text)?;
     assert!(rt; number == Some(0) && fault.is_none());
     let (number, fault) = taken_as(rt.alloc(), value, Class::Int)?;

@@ -1,4 +1,4 @@
-use super::*;
+use undo_log::*;
 use std::test::*;
 
 /// Steps come back newest first, down to a mark.

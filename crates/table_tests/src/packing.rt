@@ -1,6 +1,6 @@
 ghost use Rattle.std.specs.Prelude.{◌≡◌};
 
-use super::*;
+use row_codec::*;
 use std::alloc::{AllocError, Global};
 use std::test::*;
 use volt_value::{ColType, Text, Value};

@@ -1,6 +1,6 @@
 ghost use Rattle.std.specs.Prelude.{◌≡◌, IfOk};
 
-use super::*;
+use table_rows::*;
 use row_codec::{Field, RowFault, RowLayout};
 use std::alloc::{AllocError, Global};
 use std::test::*;

@@ -1,6 +1,6 @@
 //! Each public call on its happy path.
 
-use crate::*;
+use sql_plan::*;
 use sqlite_items::Items;
 use std::alloc::{AllocError, Global};
 use std::cmp::Ordering;

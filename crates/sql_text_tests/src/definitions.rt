@@ -1,6 +1,6 @@
 //! Definitions and procedures, read and refused. The places of refusals are counted by hand.
 
-use crate::*;
+use ddl_parse::*;
 use std::alloc::Global;
 use std::test::Fail;
 use volt_text::lex;

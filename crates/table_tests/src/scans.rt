@@ -1,7 +1,7 @@
 //! Tests of what no clause says: calls succeed where there is memory, and what is counted is copied.
 ghost use Rattle.std.specs.Prelude.{◌≡◌, ◌+◌, ◌<◌, ◌≤◌, length, IfOk, OnOk};
 
-use super::*;
+use cow_scan::*;
 use std::alloc::{AllocError, Global};
 use std::marker::{Brand, Send};
 use std::sync::Arc;

@@ -1,6 +1,6 @@
 //! Statements that are accepted or refused, each fault alone and two at once.
 
-use crate::*;
+use sql_check::*;
 use sql_parse::{Stmt, parse_statement};
 use sql_plan::{Action, Order, Prepared, Scope, Shape};
 use sql_resolve::{Bound, CheckFault};

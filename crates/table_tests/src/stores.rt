@@ -1,6 +1,6 @@
 ghost use Rattle.std.specs.Prelude.{◌≡◌, IfOk};
 
-use super::*;
+use table_store::*;
 use cow_scan::CowScan;
 use row_codec::{Field, RowFault, RowLayout};
 use std::alloc::{AllocError, Global};

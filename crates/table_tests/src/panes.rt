@@ -2,7 +2,7 @@
 //! plain list.
 ghost use Rattle.std.specs.Prelude.{◌<◌};
 
-use super::*;
+use pane_index::*;
 use cow_scan::CowScan;
 use std::alloc::{AllocError, Global};
 use std::marker::Send;

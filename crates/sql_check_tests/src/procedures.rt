@@ -1,6 +1,6 @@
 //! Procedures that are compiled or refused. The numbers of refusals were told by an independent reading.
 
-use crate::*;
+use proc_lang::*;
 use ddl_parse::{Ddl, ProcText, parse_ddl};
 use sql_plan::Program;
 use std::alloc::Global;

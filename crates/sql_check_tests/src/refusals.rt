@@ -1,6 +1,6 @@
 //! What refusals are about: each fault, by the sentence that a person reads.
 
-use crate::*;
+use sql_refusals::*;
 use sql_check::prepare;
 use sql_parse::{Stmt, parse_statement};
 use sql_resolve::{Bound, CheckFault};

@@ -1,4 +1,4 @@
-use super::*;
+use volt_index::*;
 use std::alloc::{AllocError, Global};
 use std::test::*;
 use volt_value::{Text, Value};

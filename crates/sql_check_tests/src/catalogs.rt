@@ -1,4 +1,4 @@
-use super::*;
+use volt_catalog::*;
 use std::alloc::{AllocError, Global};
 use std::test::*;
 use volt_value::{ColType, Text};

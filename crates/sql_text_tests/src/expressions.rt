@@ -1,6 +1,6 @@
 //! Expressions that are read or refused, with the place that follows from the grammar's text.
 
-use crate::*;
+use expr_parse::*;
 use sql_grammar::Kind;
 use std::alloc::Global;
 use std::test::Fail;

@@ -1,7 +1,7 @@
 //! Tests of what no clause says: calls succeed where there is memory, and a block may cross threads.
 ghost use Rattle.std.specs.Prelude.{◌≡◌, ◌<◌, IfOk};
 
-use super::*;
+use tuple_block::*;
 use std::alloc::{AllocError, Global};
 use std::marker::{Brand, Send, Sync};
 use std::sync::ledger::{Blank, Ledger};
