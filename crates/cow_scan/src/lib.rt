@@ -8,4 +8,3 @@ mod state;
 
 pub use blocks::CowBlocks;
 pub use scan::CowScan;
-

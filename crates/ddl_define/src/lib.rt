@@ -10,4 +10,3 @@ mod tables;
 
 pub use columns::col_type;
 pub use definitions::{DefinedProcedure, Definitions, code};
-

@@ -5,5 +5,3 @@
 pub mod log;
 mod opening;
 mod reading;
-#[cfg(test)]
-mod tests;

@@ -10,4 +10,3 @@ mod rows;
 pub use pane::{MAX_BLOCKS, Pane};
 pub use place::Place;
 pub use places::Places;
-

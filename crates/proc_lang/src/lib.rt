@@ -16,4 +16,3 @@ mod values;
 pub use compiling::compile;
 pub use fault::ProcFault;
 pub use laws::statements_keep_to_their_partition;
-

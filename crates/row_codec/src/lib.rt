@@ -13,4 +13,3 @@ pub use cell::{Cell, fault_of};
 pub use fault::RowFault;
 pub use field::Field;
 pub use layout::RowLayout;
-

@@ -17,6 +17,3 @@ pub use file::read_base;
 pub use head::BaseHead;
 pub use spelling::encode_head;
 pub use writing::BaseWriter;
-
-#[cfg(test)]
-mod tests;

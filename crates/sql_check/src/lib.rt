@@ -21,4 +21,3 @@ pub use order::order_by;
 pub use outputs::{column_written, have_aggregate};
 pub use preparing::{examine, prepare};
 pub use select::heads_given;
-

@@ -1,6 +1,6 @@
-use volt_catalog::*;
 use std::alloc::{AllocError, Global};
 use std::test::*;
+use volt_catalog::*;
 use volt_value::{ColType, Text};
 
 /// A call that changes a catalog. The columns of a table of `Named` are BIGINTs that are named by

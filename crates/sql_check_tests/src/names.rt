@@ -2,9 +2,9 @@
 
 ghost use Rattle.std.specs.Prelude.{◌≡◌, IfOk, None};
 
-use sql_resolve::*;
 use sql_parse::{Arithmetic, ColumnName, Delete, Expr, Stmt, parse_statement};
 use sql_plan::{Cond, ProgramValue, Scalar};
+use sql_resolve::*;
 use sqlite_items::{Boxed, Items};
 use std::alloc::{AllocError, Global};
 use std::mem::forget;

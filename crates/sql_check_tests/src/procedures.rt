@@ -1,7 +1,7 @@
 //! Procedures that are compiled or refused. The numbers of refusals were told by an independent reading.
 
-use proc_lang::*;
 use ddl_parse::{Ddl, ProcText, parse_ddl};
+use proc_lang::*;
 use sql_plan::Program;
 use std::alloc::Global;
 use std::process::Abort;

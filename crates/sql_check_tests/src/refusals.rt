@@ -1,8 +1,8 @@
 //! What refusals are about: each fault, by the sentence that a person reads.
 
-use sql_refusals::*;
 use sql_check::prepare;
 use sql_parse::{Stmt, parse_statement};
+use sql_refusals::*;
 use sql_resolve::{Bound, CheckFault};
 use sqlite_items::Items;
 use std::alloc::{AllocError, Global};

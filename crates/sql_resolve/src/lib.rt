@@ -20,4 +20,3 @@ pub use resolve::{alone, condition, question, scalar, taken};
 pub use resolved::Resolved;
 pub use sort::{Sort, common_among, common_of_three, common_of_two, sort_of};
 pub use tables::{class_at, number_of, table_named};
-

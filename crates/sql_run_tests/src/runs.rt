@@ -1,7 +1,7 @@
 //! Programs by hand, run to their end: the statements that they ask for and what they come to, as one text.
 
-use proc_run::*;
 use expr_parse::{Arithmetic, Comparison};
+use proc_run::*;
 use sql_plan::{Cond, Fault, Program, ProgramStep, ProgramValue, Returned, Row, Rows, Scalar};
 use sqlite_items::{Boxed, Items};
 use std::alloc::{AllocError, Global};

@@ -9,4 +9,3 @@ mod writing;
 pub use loading::load;
 pub use reading::read_chunk;
 pub use writing::{chunk_of, rows_in, write_chunk};
-

@@ -10,4 +10,3 @@ mod slots;
 
 pub use row::{Row, Rows};
 pub use rows::TableRows;
-

@@ -6,4 +6,3 @@ mod step;
 mod tables;
 
 pub use tables::Tables;
-

@@ -1,11 +1,11 @@
 //! Tests of what no clause says: calls succeed where there is memory, and a block may cross threads.
 ghost use Rattle.std.specs.Prelude.{◌≡◌, ◌<◌, IfOk};
 
-use tuple_block::*;
 use std::alloc::{AllocError, Global};
 use std::marker::{Brand, Send, Sync};
 use std::sync::ledger::{Blank, Ledger};
 use std::test::Fail;
+use tuple_block::*;
 
 fn may_cross<T: Send + Sync>(_value: &T) {}
 

@@ -3,12 +3,12 @@ ghost use Rattle.std.specs.List.{AllByRecursion};
 ghost use Rattle.volt_value.specs.declared.value.Value.TheVariants.{Int};
 ghost use Rattle.table_rows.specs.Spread.{AreTuples};
 
-use table_chunks::*;
-use table_chunks::laws::blocks_have_the_rows;
 use cow_scan::CowScan;
 use row_codec::{Field, RowFault, RowLayout};
 use std::alloc::{AllocError, Global};
 use std::test::*;
+use table_chunks::laws::blocks_have_the_rows;
+use table_chunks::*;
 use table_rows::{Rows, TableRows};
 use table_store::Tables;
 use undo_log::Mark;

@@ -1,6 +1,6 @@
-use volt_index::*;
 use std::alloc::{AllocError, Global};
 use std::test::*;
+use volt_index::*;
 use volt_value::{Text, Value};
 
 /// The key of one integer.

@@ -2,8 +2,8 @@
 //! plain list.
 ghost use Rattle.std.specs.Prelude.{◌<◌};
 
-use pane_index::*;
 use cow_scan::CowScan;
+use pane_index::*;
 use std::alloc::{AllocError, Global};
 use std::marker::Send;
 use std::test::Fail;

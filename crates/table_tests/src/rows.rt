@@ -1,9 +1,9 @@
 ghost use Rattle.std.specs.Prelude.{◌≡◌, IfOk};
 
-use table_rows::*;
 use row_codec::{Field, RowFault, RowLayout};
 use std::alloc::{AllocError, Global};
 use std::test::*;
+use table_rows::*;
 use volt_catalog::ColumnNos;
 use volt_index::Key;
 use volt_value::{ColType, Text, Value};

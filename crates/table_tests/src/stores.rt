@@ -1,11 +1,11 @@
 ghost use Rattle.std.specs.Prelude.{◌≡◌, IfOk};
 
-use table_store::*;
 use cow_scan::CowScan;
 use row_codec::{Field, RowFault, RowLayout};
 use std::alloc::{AllocError, Global};
 use std::test::*;
 use table_rows::{Rows, TableRows};
+use table_store::*;
 use tuple_block::Block;
 use undo_log::Mark;
 use volt_catalog::ColumnNos;

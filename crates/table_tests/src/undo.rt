@@ -1,5 +1,5 @@
-use undo_log::*;
 use std::test::*;
+use undo_log::*;
 
 /// Steps come back newest first, down to a mark.
 #[test]

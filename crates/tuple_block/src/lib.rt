@@ -10,4 +10,3 @@ mod steps;
 
 pub use block::{Block, MAX_WIDTH, PLACES};
 pub use steps::Steps;
-

@@ -7,4 +7,3 @@ mod undo;
 
 pub use mark::Mark;
 pub use undo::Undo;
-

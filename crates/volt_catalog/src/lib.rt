@@ -15,4 +15,3 @@ pub use column::{Column, ColumnNos, Columns};
 pub use fault::CatalogFault;
 pub use procedure::{ParamTypes, ProcDef};
 pub use table::{IndexDef, Table};
-

@@ -12,5 +12,3 @@ pub mod listing;
 pub mod memory;
 pub mod power;
 mod stored;
-#[cfg(test)]
-mod tests;

@@ -14,4 +14,3 @@ pub use index::Index;
 pub use key::{Key, end_of, key_of};
 pub use laws::keys_are_in_order;
 pub use range::IndexRange;
-

@@ -1,13 +1,11 @@
 //! Tests of what no clause says: calls succeed where there is memory, and what was worked out by hand
 //! is what is written and read.
-ghost use Rattle.std.specs.Prelude.{◌≡◌, ◌+◌, ◌<◌, ◌≤◌, [], length, IfOk, IsTrue};
+ghost use Rattle.std.specs.Prelude.{◌≡◌, ◌+◌, ◌<◌, ◌≤◌, [], length, vec_len, IfOk, IsTrue};
 ghost use Rattle.volt_disk.specs.Memory.{told_of};
 ghost use Rattle.volt_disk.specs.declared.listing.Listing.TheVariants.{Kept};
 ghost use Rattle.snapshot_io.specs.Base.{head_of, CanStart};
 
-use crate::file::{read_base, read_file};
-use crate::head::BaseHead;
-use crate::writing::BaseWriter;
+use snapshot_io::{BaseHead, BaseWriter, read_base};
 use std::alloc::{AllocError, Global};
 use std::test::Fail;
 use volt_base::{Applied, Bytes, LastReply, Outcome};
@@ -107,6 +105,19 @@ fn text_of(alloc: Global, bytes: &[u8]) -> Result<String, LogFault> {
     Ok(format!(in alloc; "{base:?}")?)
 }
 
+fn zeros(alloc: Global, len: usize) -> Result<Vec<u8>, AllocError>
+    ensures { IfOk result (λ bytes. vec_len bytes ≡ len) }
+{
+    vec![in alloc; 0u8; len]
+}
+
+fn bytes_of(alloc: Global, disk: &mut MemDisk) -> Result<Vec<u8>, LogFault> {
+    let size = disk.size(5)?;
+    let mut bytes = zeros(alloc, size as usize)?;
+    disk.read_at(5, 0, &mut bytes)?;
+    Ok(bytes)
+}
+
 #[test]
 fn each_cut_fails_the_write(rt: HostRuntime) -> Result<(), Fail> {
     for call in 1..10u64 {
@@ -122,7 +133,7 @@ fn each_cut_fails_the_write(rt: HostRuntime) -> Result<(), Fail> {
 fn base_that_was_written_stays(rt: HostRuntime) -> Result<(), Fail> {
     for choice in [0, 1, 7] {
         let (mut disk, done) = write_on_new(rt.alloc(), 100, choice)?;
-        let bytes = read_file(rt.alloc(), &mut disk, 5)?;
+        let bytes = bytes_of(rt.alloc(), &mut disk)?;
         assert!(rt; done);
         assert_eq!(rt; bytes.as_slice(), BASE.as_slice());
     }

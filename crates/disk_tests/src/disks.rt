@@ -2,11 +2,11 @@
 ghost use Rattle.std.specs.Prelude.{◌≡◌, ℕ, IsTrue};
 ghost use Rattle.volt_disk.specs.File.{no_file};
 
-use crate::disk::{Disk, DiskFailed};
-use crate::folder::FileDisk;
-use crate::memory::MemDisk;
 use std::fs;
 use std::test::Fail;
+use volt_disk::disk::{Disk, DiskFailed};
+use volt_disk::folder::FileDisk;
+use volt_disk::memory::MemDisk;
 
 // File 1 has six bytes that are synced, and then four more and a write that aren't. File 2, which is
 // made before it, has a write that isn't synced, and is then removed.

@@ -4,7 +4,7 @@ ghost use Rattle.volt_disk.specs.Memory.{told_of};
 ghost use Rattle.volt_disk.specs.declared.listing.Listing.TheVariants.{Kept};
 ghost use Rattle.gate_log.specs.Log.{IsReady};
 
-use crate::log::GateLog;
+use gate_log::log::GateLog;
 use std::alloc::{AllocError, Global};
 use std::fs;
 use std::test::Fail;
