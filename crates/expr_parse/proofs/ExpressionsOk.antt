@@ -6,7 +6,7 @@ use Rattle.sql_grammar.specs.Grammar.{G, never, null, first, cont, ok, is_in}
 use Rattle.expr_parse.specs.declared.expression.Expr.{Expr}
 use Rattle.expr_parse.specs.declared.levels.Level.{Level}
 use Rattle.expr_parse.specs.declared.levels.Level.TheVariants.{Whole, Negation, Sum, Sign}
-use Rattle.expr_parse.specs.Expressions.{column, literal, bound, rows, first_of_rows, named, parenthesized, atom, minus, signed, product, sum, null_test, between, sums, among, excluded, compared, contained, tested, test, inverted, negation, conjunction, disjunction, by_level, level, deeper, expr, inner_expr, after_sign, after_product, after_sum, after_negation, after_whole}
+use Rattle.expr_parse.specs.Expressions.{column, literal, bound, rows, first_of_rows, named, parenthesized, atom, minus, signed, product, sum, null_test, between, sums, among, excluded, compared, contained, tested, predicate, inverted, negation, conjunction, disjunction, by_level, level, deeper, expr, inner_expr, after_sign, after_product, after_sum, after_negation, after_whole}
 
 -- what may go on after a text of these levels, inside a longer one
 abbrev pub after : Level → List Kind
@@ -65,11 +65,11 @@ module _ (depth : ℕ) (inner : Level → G Expr) where
   sum-cont = refl
 
   negation-null : null (negation depth inner) ≡ false
-  unfolding negation inverted test
+  unfolding negation inverted predicate
   negation-null = rw (sum-null) refl
 
   negation-first : first (negation depth inner) ≡ k.Not ∷ k.Minus ∷ operands
-  unfolding negation inverted test
+  unfolding negation inverted predicate
   negation-first = rw (sum-first, sum-null) refl
 
   negation-cont : cont (negation depth inner) ≡ after_negation
@@ -172,25 +172,25 @@ module _ (depth : ℕ) (inner : Level → G Expr) (known : Knows inner) where
   unfolding tested contained null_test
   tested-cont = simp (among-cont, between-cont, excluded-cont, compared-cont, compared-null)
 
-  test-ok : ok (test depth inner) ≡ true
-  unfolding test
-  test-ok = simp (sum-ok, tested-ok, tested-first, sum-cont depth inner)
+  predicate-ok : ok (predicate depth inner) ≡ true
+  unfolding predicate
+  predicate-ok = simp (sum-ok, tested-ok, tested-first, sum-cont depth inner)
 
-  test-null : null (test depth inner) ≡ false
-  unfolding test
-  test-null = simp (sum-null depth inner)
+  predicate-null : null (predicate depth inner) ≡ false
+  unfolding predicate
+  predicate-null = simp (sum-null depth inner)
 
-  test-first : first (test depth inner) ≡ k.Minus ∷ operands
-  unfolding test
-  test-first = simp (sum-null depth inner, sum-first depth inner)
+  predicate-first : first (predicate depth inner) ≡ k.Minus ∷ operands
+  unfolding predicate
+  predicate-first = simp (sum-null depth inner, sum-first depth inner)
 
-  test-cont : cont (test depth inner) ≡ (after_sum ++ after_sum ++ after_sum ++ k.Equal ∷ k.NotEqual ∷ k.Less ∷ k.LessEqual ∷ k.Greater ∷ k.GreaterEqual ∷ k.In ∷ k.Between ∷ k.Not ∷ k.Is ∷ []) ++ after_sum
-  unfolding test
-  test-cont = simp (tested-cont, tested-null, sum-cont depth inner)
+  predicate-cont : cont (predicate depth inner) ≡ (after_sum ++ after_sum ++ after_sum ++ k.Equal ∷ k.NotEqual ∷ k.Less ∷ k.LessEqual ∷ k.Greater ∷ k.GreaterEqual ∷ k.In ∷ k.Between ∷ k.Not ∷ k.Is ∷ []) ++ after_sum
+  unfolding predicate
+  predicate-cont = simp (tested-cont, tested-null, sum-cont depth inner)
 
   negation-ok : ok (negation depth inner) ≡ true
   unfolding negation inverted
-  negation-ok = simp (known.null_negation, known.cont_negation, known.ok_negation, test-ok, test-first, test-cont, test-null)
+  negation-ok = simp (known.null_negation, known.cont_negation, known.ok_negation, predicate-ok, predicate-first, predicate-cont, predicate-null)
 
   conjunction-ok : ok (conjunction depth inner) ≡ true
   unfolding conjunction
@@ -209,7 +209,7 @@ abbrev none : Level → G Expr
 none l = never
 
 zero-ok : (l : Level) → ok (by_level zero none l) ≡ true
-unfolding disjunction conjunction negation inverted test tested contained excluded among sums between compared null_test sum product signed minus atom parenthesized literal named column bound rows first_of_rows
+unfolding disjunction conjunction negation inverted predicate tested contained excluded among sums between compared null_test sum product signed minus atom parenthesized literal named column bound rows first_of_rows
 zero-ok Whole = refl
 zero-ok Negation = refl
 zero-ok Sum = refl

@@ -173,17 +173,17 @@ module _ (depth : ℕ) (inner : Level → G Expr) where
   unfoldable pub tested : G (Expr → Expr)
   tested = alt (skip k.Is null_test) (alt (skip k.Not excluded) contained)
 
-  -- test = sum [cmp sum | IS .. | [NOT] BETWEEN .. | [NOT] IN ..]
-  unfoldable pub test : G Expr
-  test = map (λ p. p.1 p.0) (seq sum tested)
+  -- predicate = sum [cmp sum | IS .. | [NOT] BETWEEN .. | [NOT] IN ..]
+  unfoldable pub predicate : G Expr
+  predicate = map (λ p. p.1 p.0) (seq sum tested)
 
   -- NOT negation
   unfoldable pub inverted : G Expr
   inverted = map (λ p. e.Not p.1) (seq (guard (can_nest depth) (tok k.Not)) (inner Negation))
 
-  -- NOT over test
+  -- NOT over predicate
   unfoldable pub negation : G Expr
-  negation = note after_negation (alt inverted test)
+  negation = note after_negation (alt inverted predicate)
 
   -- AND over NOT
   unfoldable pub conjunction : G Expr

@@ -265,7 +265,7 @@ impl<F: Fn(Global, &mut Tokens<'_>, usize, Level) -> Result<Expr, Fault>> Rules<
         self.compared(tokens, value)
     }
 
-    /// What a test says of the sum before it, where it says something.
+    /// What a predicate says of the sum before it, where it says something.
     #[tactic(auto, using(crate::proofs::Steps::steps), unfolding(crate::specs::Expressions::tested))]
     fn tested(&self, tokens: &mut Tokens<'_>, value: Expr) -> Result<Expr, Fault>
         requires { Nests self.now.depth (F.pre self.now.level) (F.post self.now.level) }
@@ -281,10 +281,10 @@ impl<F: Fn(Global, &mut Tokens<'_>, usize, Level) -> Result<Expr, Fault>> Rules<
     }
 
     /// A sum, compared or tested.
-    #[tactic(auto, using(crate::proofs::Steps::steps), unfolding(crate::specs::Expressions::test))]
-    fn test(&self, tokens: &mut Tokens<'_>) -> Result<Expr, Fault>
+    #[tactic(auto, using(crate::proofs::Steps::steps), unfolding(crate::specs::Expressions::predicate))]
+    fn predicate(&self, tokens: &mut Tokens<'_>) -> Result<Expr, Fault>
         requires { Nests self.now.depth (F.pre self.now.level) (F.post self.now.level) }
-        ensures { Reads (parse (spec.test self.now.depth (spec.deeper self.now.depth)) tokens.old) result tokens.new }
+        ensures { Reads (parse (spec.predicate self.now.depth (spec.deeper self.now.depth)) tokens.old) result tokens.new }
     {
         let value = self.sum(tokens)?;
         self.tested(tokens, value)
@@ -310,7 +310,7 @@ impl<F: Fn(Global, &mut Tokens<'_>, usize, Level) -> Result<Expr, Fault>> Rules<
         if tokens.begins(self.depth, Kind::Not) {
             return self.inverted(tokens);
         }
-        self.test(tokens)
+        self.predicate(tokens)
     }
 
     /// AND over NOT.
