@@ -1,78 +1,25 @@
 //! Statements that are accepted or refused, each fault alone and two at once.
 
+use crate::schema::{add, parsed, partition};
 use sql_check::*;
-use sql_parse::{Stmt, parse_statement};
 use sql_plan::{Action, Order, Prepared, Scope, Shape};
 use sql_resolve::{Bound, CheckFault};
 use sqlite_items::Items;
 use std::alloc::{AllocError, Global};
 use std::test::Fail;
-use volt_catalog::{Catalog, Column, ColumnNos, Columns, Table};
-use volt_text::lex;
+use volt_catalog::{Catalog, Column};
 use volt_value::{Class, ColType, Text};
-
-fn add(
-    alloc: Global,
-    catalog: &mut Catalog,
-    name: &str,
-    columns: &[(&str, ColType)],
-) -> Result<(), Fail> {
-    let mut made = Vec::new(alloc);
-    for (name, kind) in columns {
-        made.push(Column {
-            name: Text::of(alloc, *name)?,
-            kind: *kind,
-            not_null: false,
-        })?;
-    }
-    let table = Table {
-        name: Text::of(alloc, name)?,
-        columns: Columns::from_vec(made),
-        key: ColumnNos::from_vec(Vec::from_slice(alloc, &[0])?),
-        part: None,
-    };
-    match catalog.add_table(table) {
-        Ok(_) => Ok(()),
-        Err(_) => Err(Fail::from(CheckFault::NoMemory)),
-    }
-}
 
 /// `a` and `b` are partitioned on their keys, `r` is not.
 fn tables(alloc: Global) -> Result<Catalog, Fail> {
     let mut catalog = Catalog::new(alloc);
-    let text = ColType::Varchar(9);
-    add(
-        alloc,
-        &mut catalog,
-        "a",
-        &[("id", ColType::Big), ("n", ColType::Big), ("t", text)],
-    )?;
-    add(
-        alloc,
-        &mut catalog,
-        "b",
-        &[("id", ColType::Big), ("v", ColType::Big)],
-    )?;
-    add(
-        alloc,
-        &mut catalog,
-        "r",
-        &[("k", text), ("x", ColType::Big)],
-    )?;
-    if catalog.partition(0, 0).is_err() || catalog.partition(1, 0).is_err() {
-        return Err(Fail::from(CheckFault::NoMemory));
-    }
+    let (big, text) = (ColType::Big, ColType::Varchar(9));
+    let columns = [("id", big), ("n", big), ("t", text)];
+    add(alloc, &mut catalog, "a", &columns, false)?;
+    add(alloc, &mut catalog, "b", &[("id", big), ("v", big)], false)?;
+    add(alloc, &mut catalog, "r", &[("k", text), ("x", big)], false)?;
+    partition(&mut catalog, 2)?;
     Ok(catalog)
-}
-
-/// The tree of a statement.
-fn parsed(alloc: Global, text: &str) -> Result<Stmt, Fail> {
-    if text.len() > 100_000 {
-        return Err(Fail::from("too long"));
-    }
-    let tokens = lex(alloc, text)?;
-    let (statement, _) = parse_statement(alloc, text, tokens.as_slice(), 0)?;
-    Ok(statement)
 }
 
 /// The plan of a statement.

@@ -16,3 +16,5 @@ mod plans;
 mod procedures;
 #[cfg(test)]
 mod refusals;
+#[cfg(test)]
+mod schema;

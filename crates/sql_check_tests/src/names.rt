@@ -2,36 +2,16 @@
 
 ghost use Rattle.std.specs.Prelude.{◌≡◌, IfOk, None};
 
-use sql_parse::{Arithmetic, ColumnName, Delete, Expr, Stmt, parse_statement};
+use crate::schema::{parsed, table};
+use sql_parse::{Arithmetic, ColumnName, Delete, Expr, Stmt};
 use sql_plan::{Cond, ProgramValue, Scalar};
 use sql_resolve::*;
 use sqlite_items::{Boxed, Items};
 use std::alloc::{AllocError, Global};
 use std::mem::forget;
 use std::test::Fail;
-use volt_catalog::{Catalog, Column, ColumnNos, Columns, Table};
-use volt_text::lex;
+use volt_catalog::{Catalog, Column, Table};
 use volt_value::{Class, ColType, Text};
-
-/// A table that isn't partitioned, with its first column as key.
-fn table(alloc: Global, name: &str, columns: &[(&str, ColType)]) -> Result<Table, AllocError>
-    ensures { IfOk result (λ table. table.part ≡ None) }
-{
-    let mut made = Vec::new(alloc);
-    for (name, kind) in columns {
-        made.push(Column {
-            name: Text::of(alloc, *name)?,
-            kind: *kind,
-            not_null: false,
-        })?;
-    }
-    Ok(Table {
-        name: Text::of(alloc, name)?,
-        columns: Columns::from_vec(made),
-        key: ColumnNos::from_vec(Vec::from_slice(alloc, &[0])?),
-        part: None,
-    })
-}
 
 /// `a (id BIGINT, t VARCHAR)`.
 fn first(alloc: Global) -> Result<Table, AllocError>
@@ -41,6 +21,7 @@ fn first(alloc: Global) -> Result<Table, AllocError>
         alloc,
         "a",
         &[("id", ColType::Big), ("t", ColType::Varchar(9))],
+        false,
     )
 }
 
@@ -48,17 +29,8 @@ fn first(alloc: Global) -> Result<Table, AllocError>
 fn second(alloc: Global) -> Result<Table, AllocError>
     ensures { IfOk result (λ table. table.part ≡ None) }
 {
-    table(alloc, "b", &[("id", ColType::Big), ("v", ColType::Small)])
-}
-
-/// The tree of a statement.
-fn parsed(alloc: Global, text: &str) -> Result<Stmt, Fail> {
-    if text.len() > 100_000 {
-        return Err(Fail::from("too long"));
-    }
-    let tokens = lex(alloc, text)?;
-    let (statement, _) = parse_statement(alloc, text, tokens.as_slice(), 0)?;
-    Ok(statement)
+    let columns = [("id", ColType::Big), ("v", ColType::Small)];
+    table(alloc, "b", &columns, false)
 }
 
 fn filter_of(delete: Delete) -> Option<Expr> {

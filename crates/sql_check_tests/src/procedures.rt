@@ -1,65 +1,33 @@
 //! Procedures that are compiled or refused. The numbers of refusals were told by an independent reading.
 
+use crate::schema::{add, partition};
 use ddl_parse::{Ddl, ProcText, parse_ddl};
 use proc_lang::*;
 use sql_plan::Program;
 use std::alloc::Global;
 use std::process::Abort;
 use std::test::Fail;
-use volt_catalog::{Catalog, Column, ColumnNos, Columns, ProcDef, Table};
+use volt_catalog::{Catalog, Column, ProcDef};
 use volt_text::lex;
 use volt_value::{ColType, Text};
-
-fn add(
-    alloc: Global,
-    catalog: &mut Catalog,
-    name: &str,
-    columns: &[(&str, ColType)],
-) -> Result<(), Fail> {
-    let mut made = Vec::new(alloc);
-    for (name, kind) in columns {
-        made.push(Column {
-            name: Text::of(alloc, *name)?,
-            kind: *kind,
-            not_null: true,
-        })?;
-    }
-    let table = Table {
-        name: Text::of(alloc, name)?,
-        columns: Columns::from_vec(made),
-        key: ColumnNos::from_vec(Vec::from_slice(alloc, &[0])?),
-        part: None,
-    };
-    match catalog.add_table(table) {
-        Ok(_) => Ok(()),
-        Err(_) => Err("no table".into()),
-    }
-}
 
 /// `acct`, `t` and `u` are partitioned on their keys, `r` is not.
 fn tables(alloc: Global) -> Result<Catalog, Fail> {
     let mut catalog = Catalog::new(alloc);
-    let big = ColType::Big;
-    let text = ColType::Varchar(10);
-    add(alloc, &mut catalog, "acct", &[("id", big), ("bal", big)])?;
+    let (big, text) = (ColType::Big, ColType::Varchar(10));
     add(
         alloc,
         &mut catalog,
-        "t",
-        &[("id", big), ("a", big), ("s", text)],
+        "acct",
+        &[("id", big), ("bal", big)],
+        true,
     )?;
-    add(alloc, &mut catalog, "u", &[("id", text), ("k", big)])?;
-    add(
-        alloc,
-        &mut catalog,
-        "r",
-        &[("x", big), ("y", text), ("z", ColType::Integer)],
-    )?;
-    for table in 0..3 {
-        if catalog.partition(table, 0).is_err() {
-            return Err("not partitioned".into());
-        }
-    }
+    let columns = [("id", big), ("a", big), ("s", text)];
+    add(alloc, &mut catalog, "t", &columns, true)?;
+    add(alloc, &mut catalog, "u", &[("id", text), ("k", big)], true)?;
+    let columns = [("x", big), ("y", text), ("z", ColType::Integer)];
+    add(alloc, &mut catalog, "r", &columns, true)?;
+    partition(&mut catalog, 3)?;
     Ok(catalog)
 }
 

@@ -1,61 +1,30 @@
 //! What refusals are about: each fault, by the sentence that a person reads.
 
+use crate::schema::{add, parsed, partition};
 use sql_check::prepare;
-use sql_parse::{Stmt, parse_statement};
+use sql_parse::Stmt;
 use sql_refusals::*;
 use sql_resolve::{Bound, CheckFault};
 use sqlite_items::Items;
 use std::alloc::{AllocError, Global};
 use std::test::Fail;
-use volt_catalog::{Catalog, Column, ColumnNos, Columns, Table};
-use volt_text::lex;
+use volt_catalog::Catalog;
 use volt_value::{Class, ColType, Text};
 
-fn column(alloc: Global, name: &str, kind: ColType) -> Result<Column, AllocError> {
-    Ok(Column {
-        name: Text::of(alloc, name)?,
-        kind,
-        not_null: true,
-    })
-}
-
-/// A table of this name with the columns `id`, `bal` and `note`.
-fn add(alloc: Global, catalog: &mut Catalog, name: &str) -> Result<(), Fail> {
-    let mut columns = Vec::new(alloc);
-    columns.push(column(alloc, "id", ColType::Big)?)?;
-    columns.push(column(alloc, "bal", ColType::Big)?)?;
-    columns.push(column(alloc, "note", ColType::Varchar(9))?)?;
-    let table = Table {
-        name: Text::of(alloc, name)?,
-        columns: Columns::from_vec(columns),
-        key: ColumnNos::from_vec(Vec::from_slice(alloc, &[0])?),
-        part: None,
-    };
-    match catalog.add_table(table) {
-        Ok(_) => Ok(()),
-        Err(_) => Err(Fail::from(CheckFault::NoMemory)),
-    }
-}
+/// The columns of each table.
+const COLUMNS: [(&str, ColType); 3] = [
+    ("id", ColType::Big),
+    ("bal", ColType::Big),
+    ("note", ColType::Varchar(9)),
+];
 
 /// The tables `acct` and `card`, partitioned on `id`.
 fn tables(alloc: Global) -> Result<Catalog, Fail> {
     let mut catalog = Catalog::new(alloc);
-    add(alloc, &mut catalog, "acct")?;
-    add(alloc, &mut catalog, "card")?;
-    if catalog.partition(0, 0).is_err() || catalog.partition(1, 0).is_err() {
-        return Err(Fail::from("not partitioned"));
-    }
+    add(alloc, &mut catalog, "acct", &COLUMNS, true)?;
+    add(alloc, &mut catalog, "card", &COLUMNS, true)?;
+    partition(&mut catalog, 2)?;
     Ok(catalog)
-}
-
-/// The tree of a statement.
-fn parsed(alloc: Global, text: &str) -> Result<Stmt, Fail> {
-    if text.len() > 100_000 {
-        return Err(Fail::from("too long"));
-    }
-    let tokens = lex(alloc, text)?;
-    let (statement, _) = parse_statement(alloc, text, tokens.as_slice(), 0)?;
-    Ok(statement)
 }
 
 /// The fault for which a statement is refused.
