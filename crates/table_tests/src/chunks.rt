@@ -3,8 +3,9 @@ ghost use Rattle.std.specs.List.{AllByRecursion};
 ghost use Rattle.volt_value.specs.declared.value.Value.TheVariants.{Int};
 ghost use Rattle.table_rows.specs.Spread.{AreTuples};
 
+use crate::pairs::{digits, pairs};
 use cow_scan::CowScan;
-use row_codec::{Field, RowFault, RowLayout};
+use row_codec::{RowFault, RowLayout};
 use std::alloc::{AllocError, Global};
 use std::test::*;
 use table_chunks::laws::blocks_have_the_rows;
@@ -12,38 +13,12 @@ use table_chunks::*;
 use table_rows::{Rows, TableRows};
 use table_store::Tables;
 use undo_log::Mark;
-use volt_catalog::ColumnNos;
-use volt_value::{ColType, Value};
+use volt_value::Value;
 
-fn field(not_null: bool) -> Field
-    ensures { result ≡ record { kind = ColType.Big; not_null = not_null } }
-{
-    Field {
-        kind: ColType::Big,
-        not_null,
-    }
-}
-
-fn columns(alloc: Global, numbers: &[u8]) -> Result<ColumnNos, AllocError>
-    ensures { IfOk result (λ columns. columns ≡ numbers.now) }
-{
-    Ok(ColumnNos::from_vec(Vec::from_slice(alloc, numbers)?))
-}
-
-/// Pairs of integers, in which no two have the same first or the same second.
-fn pair_rows(alloc: Global) -> Result<TableRows, AllocError> {
-    let fields = [field(true), field(false)];
-    let layout = RowLayout::new(alloc, Vec::from_slice(alloc, &fields)?)?;
-    let mut keys = Vec::new(alloc);
-    keys.push(columns(alloc, &[0])?)?;
-    keys.push(columns(alloc, &[1])?)?;
-    TableRows::new(alloc, layout, keys)
-}
-
-/// Tables, of which the only one is of such pairs.
-fn pairs(alloc: Global) -> Result<Tables, AllocError> {
+/// Tables, of which the only one is of pairs.
+fn one_table(alloc: Global) -> Result<Tables, AllocError> {
     let mut tables = Vec::new(alloc);
-    tables.push(pair_rows(alloc)?)?;
+    tables.push(pairs(alloc)?)?;
     Ok(Tables::of(alloc, tables))
 }
 
@@ -72,17 +47,6 @@ fn load_two(
 }
 
 /// The digits of the pairs, in order of their firsts.
-fn digits(alloc: Global, rows: Rows<'_>) -> Result<i64, AllocError> {
-    let mut digits = 0i64;
-    for row in rows {
-        if let [Value::Int(a), Value::Int(b)] = row.values(alloc)?.as_slice() {
-            digits = digits.saturating_mul(10).saturating_add(*a);
-            digits = digits.saturating_mul(10).saturating_add(*b);
-        }
-    }
-    Ok(digits)
-}
-
 fn numbers(alloc: Global, tables: &Tables) -> Result<i64, AllocError> {
     if tables.len() == 0 || tables.table(0).keys() == 0 {
         return Ok(-1);
@@ -94,7 +58,7 @@ fn numbers(alloc: Global, tables: &Tables) -> Result<i64, AllocError> {
 #[test]
 fn rows_are_loaded_together(rt: HostRuntime) -> Result<(), Fail> {
     let alloc = rt.alloc();
-    let mut tables = pairs(alloc)?;
+    let mut tables = one_table(alloc)?;
     assert!(rt; !load_two(alloc, &mut tables, (1, 5), (2, 5))?);
     assert_eq!(rt; numbers(alloc, &tables)?, 0);
     assert!(rt; load_two(alloc, &mut tables, (2, 5), (1, 6))?);
@@ -222,10 +186,10 @@ fn sums(alloc: Global, table: &TableRows) -> Result<[(u32, i64); 2], AllocError>
 /// How many chunks there are of a scan of 100 rows, of how many rows, and whether they were loaded and
 /// give the same rows by each key.
 fn loaded_again(alloc: Global) -> Result<(usize, u32, bool), RowFault> {
-    let mut table = pair_rows(alloc)?;
+    let mut table = pairs(alloc)?;
     fill(alloc, &mut table, 100)?;
     let chunks = chunks_of(alloc, &mut table)?;
-    let mut tables = pairs(alloc)?;
+    let mut tables = one_table(alloc)?;
     let is_loaded = load_chunks(alloc, &mut tables, chunks.as_slice())?;
     if !is_loaded || tables.len() == 0 {
         return Ok((chunks.len(), 0, false));

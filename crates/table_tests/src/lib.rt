@@ -11,6 +11,8 @@ mod indexes;
 #[cfg(test)]
 mod packing;
 #[cfg(test)]
+mod pairs;
+#[cfg(test)]
 mod panes;
 #[cfg(test)]
 mod rows;

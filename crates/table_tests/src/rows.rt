@@ -1,25 +1,10 @@
-ghost use Rattle.std.specs.Prelude.{◌≡◌, IfOk};
-
-use row_codec::{Field, RowFault, RowLayout};
+use crate::pairs::{columns, field};
+use row_codec::{RowFault, RowLayout};
 use std::alloc::{AllocError, Global};
 use std::test::*;
 use table_rows::*;
-use volt_catalog::ColumnNos;
 use volt_index::Key;
 use volt_value::{ColType, Text, Value};
-
-/// A column of a type, and whether it takes NULL.
-fn field(kind: ColType, not_null: bool) -> Field
-    ensures { result ≡ record { kind = kind; not_null = not_null } }
-{
-    Field { kind, not_null }
-}
-
-fn columns(alloc: Global, numbers: &[u8]) -> Result<ColumnNos, AllocError>
-    ensures { IfOk result (λ columns. columns ≡ numbers.now) }
-{
-    Ok(ColumnNos::from_vec(Vec::from_slice(alloc, numbers)?))
-}
 
 /// People with a number, a name that no two have, and a sum that may be NULL; keys by number, by
 /// name, and by sum and then number.

@@ -1,42 +1,13 @@
-ghost use Rattle.std.specs.Prelude.{◌≡◌, IfOk};
-
+use crate::pairs::{digits, pairs};
 use cow_scan::CowScan;
-use row_codec::{Field, RowFault, RowLayout};
+use row_codec::RowFault;
 use std::alloc::{AllocError, Global};
 use std::test::*;
-use table_rows::{Rows, TableRows};
 use table_store::*;
 use tuple_block::Block;
 use undo_log::Mark;
-use volt_catalog::ColumnNos;
 use volt_index::key_of;
-use volt_value::{ColType, Value};
-
-/// A column of integers.
-fn field(not_null: bool) -> Field
-    ensures { result ≡ record { kind = ColType.Big; not_null = not_null } }
-{
-    Field {
-        kind: ColType::Big,
-        not_null,
-    }
-}
-
-fn columns(alloc: Global, numbers: &[u8]) -> Result<ColumnNos, AllocError>
-    ensures { IfOk result (λ columns. columns ≡ numbers.now) }
-{
-    Ok(ColumnNos::from_vec(Vec::from_slice(alloc, numbers)?))
-}
-
-/// Pairs of integers, in which no two have the same first or the same second.
-fn pairs(alloc: Global) -> Result<TableRows, AllocError> {
-    let fields = [field(true), field(false)];
-    let layout = RowLayout::new(alloc, Vec::from_slice(alloc, &fields)?)?;
-    let mut keys = Vec::new(alloc);
-    keys.push(columns(alloc, &[0])?)?;
-    keys.push(columns(alloc, &[1])?)?;
-    TableRows::new(alloc, layout, keys)
-}
+use volt_value::Value;
 
 /// Two tables of pairs.
 fn two_tables(alloc: Global) -> Result<Tables, AllocError> {
@@ -76,18 +47,6 @@ fn take(alloc: Global, tables: &mut Tables, number: u16, a: i64) -> Result<bool,
         return Err(AllocError);
     }
     tables.delete(number, &key)
-}
-
-/// The digits of the pairs.
-fn digits(alloc: Global, rows: Rows<'_>) -> Result<i64, AllocError> {
-    let mut digits = 0i64;
-    for row in rows {
-        if let [Value::Int(a), Value::Int(b)] = row.values(alloc)?.as_slice() {
-            digits = digits.saturating_mul(10).saturating_add(*a);
-            digits = digits.saturating_mul(10).saturating_add(*b);
-        }
-    }
-    Ok(digits)
 }
 
 /// The pairs of a table in order of their firsts or of their seconds.

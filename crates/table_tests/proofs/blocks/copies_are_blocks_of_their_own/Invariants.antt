@@ -1,4 +1,4 @@
-use Rattle.tuple_block.proofs.tests.copies_are_blocks_of_their_own.Given as goal
+use Rattle.table_tests.proofs.blocks.copies_are_blocks_of_their_own.Given as goal
 
 abbrev pub ghosts-copied_twice : goal.ghosts-copied_twice
 ghosts-copied_twice g a = record { name = a.blank.name; parts = a.blank.parts }
