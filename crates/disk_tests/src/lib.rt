@@ -8,3 +8,5 @@ mod bases;
 mod disks;
 #[cfg(test)]
 mod logs;
+#[cfg(test)]
+mod records;
