@@ -73,6 +73,12 @@ fn the_starter_catalog_is_read(rt: HostRuntime) -> Result<(), Fail> {
     Ok(())
 }
 
+/// Whether a definition is read at the beginning of a text, and the number of the token at which that ends.
+fn outcome(alloc: Global, text: &str) -> Result<(bool, usize), Fail> {
+    let (found, place) = first_of(alloc, text)?;
+    Ok((found.is_some(), place))
+}
+
 /// The place of the first text whose first definition doesn't end there, or that isn't refused there.
 fn first_wrong(
     alloc: Global,
@@ -81,8 +87,7 @@ fn first_wrong(
 ) -> Result<Option<usize>, Fail> {
     for i in 0..cases.len() {
         let (text, wanted) = &cases[i];
-        let (found, place) = first_of(alloc, *text)?;
-        if found.is_some() != is_read || place != *wanted {
+        if outcome(alloc, *text)? != (is_read, *wanted) {
             return Ok(Some(i));
         }
     }
@@ -178,8 +183,7 @@ fn nested(alloc: Global, depth: usize) -> Result<String, Fail> {
 /// Whether a program of steps that nest so deep is read, and the number of the token where that ends.
 fn nested_answer(alloc: Global, depth: usize) -> Result<(bool, usize), Fail> {
     let text = nested(alloc, depth)?;
-    let (found, place) = first_of(alloc, text.as_str())?;
-    Ok((found.is_some(), place))
+    outcome(alloc, text.as_str())
 }
 
 #[test]
@@ -189,10 +193,14 @@ fn steps_nest_a_hundred_deep(rt: HostRuntime) -> Result<(), Fail> {
     Ok(())
 }
 
+fn shown(alloc: Global, ddl: &Ddl) -> Result<String, Fail> {
+    Ok(format!(in alloc; "{ddl:?}")?)
+}
+
 /// The definition that a text begins with, as it is written for debugging.
 fn tree(alloc: Global, text: &str) -> Result<String, Fail> {
     match first_of(alloc, text)? {
-        (Some(ddl), _) => Ok(format!(in alloc; "{ddl:?}")?),
+        (Some(ddl), _) => shown(alloc, &ddl),
         (None, _) => Err("refused".into()),
     }
 }
