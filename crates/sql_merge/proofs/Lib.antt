@@ -1,0 +1,3 @@
+pub mod CollectedLemmas
+pub mod LoopLemmas
+pub mod PutLemmas

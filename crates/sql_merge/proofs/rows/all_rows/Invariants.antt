@@ -1,0 +1,7 @@
+use Rattle.std.proofs.Common.{◌≡◌, ◌++◌, drop}
+use Rattle.std.specs.List.{flat_map}
+use Rattle.sql_meaning.specs.Parts.{rows_in}
+use Rattle.sql_merge.proofs.rows.all_rows.Given as goal
+
+abbrev pub invariant-loop-part : goal.invariant-loop-part
+invariant-loop-part l = l.entries.items ++ flat_map rows_in (drop l.part-index l.parts) ≡ flat_map rows_in l.fn.parts
