@@ -5,3 +5,4 @@ pub mod Reading
 pub mod ExactValues
 pub mod ExactReplies
 pub mod ExactParts
+pub mod Whole

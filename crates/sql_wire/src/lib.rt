@@ -6,6 +6,7 @@
 mod answers;
 mod bodies;
 mod keyed;
+pub mod laws;
 mod parts;
 mod replies;
 mod values;
