@@ -1,0 +1,3 @@
+pub mod ManyReaders
+pub mod ExactReaders
+pub mod WideNumbers
