@@ -325,8 +325,11 @@ fn check_totals(rt: &impl Abort, alloc: Global, told: &[(&[&[Found]], &str)]) ->
 
 /// A group of no rows has no values, and NULL is no least and no greatest value.
 const NO_ROWS: &[Found] = &[(0, 0, 0, 0, -1, -1)];
+
 const NULLS: &[Found] = &[(0, 2, 0, 0, -1, -1)];
+
 const SOME: &[Found] = &[(0, 3, 2, 11, 4, 7)];
+
 const MORE: &[Found] = &[(0, 1, 1, 3, 3, 3)];
 
 #[test]
@@ -341,7 +344,9 @@ fn values_of_all_parts_are_gathered(rt: HostRuntime) -> Result<(), Fail> {
 
 /// Sums that leave 64 bits.
 const GREAT: &[Found] = &[(0, 9, 9, 70_000_000_000_000_000_000, 1, 2)];
+
 const SMALL: &[Found] = &[(0, 9, 9, -70_000_000_000_000_000_000, 1, 2)];
+
 const ONE: &[Found] = &[(0, 1, 1, 9_223_372_036_854_775_807, 1, 2)];
 
 #[test]
@@ -361,8 +366,11 @@ fn grouped(alloc: Global, parts: &[&[Found]], limit: Option<u64>) -> Result<Stri
 }
 
 const SEVEN_AND_EIGHT: &[Found] = &[(7, 1, 1, 10, 10, 10), (8, 2, 2, 50, 20, 30)];
+
 const SEVEN_AND_NULL: &[Found] = &[(7, 2, 2, 45, 5, 40), (-1, 1, 0, 0, -1, -1)];
+
 const EIGHT_AND_NINE: &[Found] = &[(8, 1, 1, 5, 5, 5), (9, 1, 1, 55, 55, 55)];
+
 const GROUPS: [&[Found]; 3] = [SEVEN_AND_EIGHT, SEVEN_AND_NULL, EIGHT_AND_NINE];
 
 #[test]
